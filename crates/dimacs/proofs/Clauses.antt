@@ -1,0 +1,166 @@
+-- A clause takes at least two bytes, or one where the text ends. Assumes nothing.
+use Prim.Native.Nat.{ℕ, zero, suc, _+_, _-_, _*_, _/_, _≤_, _<_, min, max}
+use mathlib.Core.Bool.{Bool, true, false, cond}
+use mathlib.Core.List.{List, [], _∷_, _++_}
+use mathlib.Core.Path.{_≡_, refl, ap, sym, _∙_, subst}
+use native.Mathlib.Omega.{arith}
+use borrow.Author.Tests.{leb-true}
+use lib.Dec.{leb, eqb}
+use lib.ListN.{length}
+use lib.IntN.{ℤ}
+use Rattle.dimacs.specs.Loop.{Step, again, answer}
+use Rattle.dimacs.specs.Names.{Reason, numbered, refusal, largest}
+use Rattle.dimacs.specs.Tokens.{unmoved, atEnd, linebreaks, intAt, uintAt, bracedUintAt, endOfLine, lineEnds, numberStands}
+use Rattle.dimacs.specs.Header.{Limits}
+use Rattle.dimacs.specs.Clauses.{Literals, closed, stopped, Reading, reads, onMissing, onInt, nextLiteral, literalsFrom, literals, Answer, clause, ended, refused, Answered, says, refuses, clauseOf, noClause, body, owed, marked, clauseAt}
+use Rattle.dimacs.specs.declared.Format.{Format}
+use Rattle.dimacs.specs.declared.Format.the-variants.{Plain, Weighted, Grouped}
+use Rattle.dimacs.specs.declared.Refusal.{Refusal}
+use Rattle.dimacs.specs.declared.Uint.{Uint}
+use Rattle.dimacs.specs.declared.Uint.the-variants as uint
+use Rattle.dimacs.specs.declared.Int.{Int}
+use Rattle.dimacs.specs.declared.Int.the-variants as int
+use Rattle.dimacs.specs.declared.EndOfLine.{EndOfLine}
+use Rattle.dimacs.specs.declared.EndOfLine.the-variants as end
+use Rattle.dimacs.proofs.Loops.{Leads, Falls, after, unrolled, kept}
+use Rattle.dimacs.proofs.Tests.{chosen}
+use Rattle.dimacs.proofs.Spans.{Spans, then-spans, Moves, then-moves, moves-then, Closes, EndCloses, end-closes, linebreaks-spans, UintMoves, uint-moves, braced-uint-moves, IntMoves, int-moves}
+
+-- What is left to a reader of literals: twice the bytes, and one more while line ends may still come.
+abbrev pub left : List ℕ → Reading → ℕ
+left s r = (length s - r .at) * 2 + cond (r .fresh) 0 1
+
+-- The literals close past a byte of their own, or are refused at a place within reach.
+abbrev pub LiteralsSpan : List ℕ → ℕ → Literals → Type 0
+LiteralsSpan s at (closed so e) = Moves s at e
+LiteralsSpan s at (stopped r so) = Spans s at (r .place)
+
+module _ (s : List ℕ) (limit room : ℕ) where
+  literals-falls : (r : Reading) → Falls (left s) r (nextLiteral s limit room r)
+  unfolding nextLiteral
+  literals-falls r = go (intAt s limit (r .at)) (int-moves s limit (r .at)) (r .fresh)
+    where
+      go : (i : Int) → IntMoves s (r .at) i → (f : Bool) → Falls (left s) (reads (r .at) f (r .so)) (onInt s limit room i (reads (r .at) f (r .so)))
+      go int.Missing m true = tt
+      go int.Missing m false =
+          chosen (Falls (left s) (reads (r .at) false (r .so))) (unmoved (r .at) (linebreaks s (r .at))) (λ _. tt)
+          (λ _. omega (arith, linebreaks-spans s (r .at)))
+      go (int.Zero n) m f = tt
+      go (int.Literal v n) m f = chosen (Falls (left s) (reads (r .at) f (r .so))) (leb room (length (r .so))) (λ _. tt) (λ _. omega arith)
+      go int.TooBig m f = tt
+
+  -- One number or one break of lines, and then the rest.
+  pub literals-step : (r : Reading) → literalsFrom s limit room r ≡ after (nextLiteral s limit room r) (literalsFrom s limit room)
+  unfolding literalsFrom
+  literals-step r =
+      unrolled (nextLiteral s limit room) (stopped (refusal s Reason.literalExpected 0) []) (left s) literals-falls (length s + length s + 2) r (enough (r .fresh))
+    where
+      enough : (f : Bool) → (length s - r .at) * 2 + cond f 0 1 < length s + length s + 2
+      enough true = omega arith
+      enough false = omega arith
+
+  literals-keep : (at : ℕ) (r : Reading) → Spans s at (r .at) → Leads (λ x. Spans s at (x .at)) (LiteralsSpan s at) (nextLiteral s limit room r)
+  unfolding nextLiteral numbered
+  literals-keep at r h = go (intAt s limit (r .at)) (int-moves s limit (r .at)) (r .fresh)
+    where
+      On : Step Reading Literals → Type 0
+      On = Leads (λ x. Spans s at (x .at)) (LiteralsSpan s at)
+
+      go : (i : Int) → IntMoves s (r .at) i → (f : Bool) → On (onInt s limit room i (reads (r .at) f (r .so)))
+      go int.Missing m true = h
+      go int.Missing m false = chosen On (unmoved (r .at) (linebreaks s (r .at))) (λ _. h) (λ _. then-spans h (linebreaks-spans s (r .at)))
+      go (int.Zero n) m f = moves-then h m
+      go (int.Literal v n) m f = chosen On (leb room (length (r .so))) (λ _. h) (λ _. omega arith)
+      go int.TooBig m f = h
+
+  pub literals-span : (at : ℕ) → LiteralsSpan s at (literals s limit room at)
+  unfolding literals literalsFrom
+  literals-span at =
+      kept (nextLiteral s limit room) (stopped (refusal s Reason.literalExpected 0) []) (left s) literals-falls (λ x. Spans s at (x .at))
+      (LiteralsSpan s at) (literals-keep at) (length s + length s + 2) (reads at false []) (omega arith) (omega arith)
+
+-- How many clauses may still come.
+abbrev pub toCome : List ℕ → ℕ → ℕ
+toCome s at = (length s + 1 - at) / 2
+
+-- Past a clause, which leaves fewer to come.
+pub record Clears (s : List ℕ) (at e : ℕ) : Type 0 where
+  pub on : at < e
+  pub within : e ≤ length s
+  pub fewer : toCome s e < toCome s at
+
+pub record Stops (s : List ℕ) (at e : ℕ) (r : Refusal) : Type 0 where
+  pub on : at ≤ r .place
+  pub within : r .place ≤ max at (length s)
+  pub there : e ≡ r .place
+
+-- Where an answer stands: past its clause, at the end of the text, or at the refusal's place.
+abbrev pub Placed : List ℕ → ℕ → ℕ → Answer → Type 0
+Placed s at e (clause extra so) = Clears s at e
+Placed s at e ended = (Spans s at e) × (length s ≤ e)
+Placed s at e (refused r so) = Stops s at e r
+
+abbrev pub Onward : List ℕ → ℕ → Answered → Type 0
+Onward s at d = Placed s at (d .place) (d .answer)
+
+-- An answer from further on is one from here.
+pub back : {s : List ℕ} {at a : ℕ} → Spans s at a → (d : Answered) → Onward s a d → Onward s at d
+back {s} {at} {a} h d k = go (d .answer) k
+  where
+    go : (x : Answer) → Placed s a (d .place) x → Placed s at (d .place) x
+    go (clause extra so) k = omega arith
+    go ended k = omega arith
+    go (refused r so) k = omega arith
+
+module _ (s : List ℕ) where
+  refuses-onward : (why : Reason) (at : ℕ) (so : List ℤ) → Onward s at (refuses s why at so)
+  unfolding numbered
+  refuses-onward why at so = omega arith
+
+  clause-of-onward : (extra at : ℕ) (l : Literals) → LiteralsSpan s at l → Onward s at (clauseOf s extra l)
+  clause-of-onward extra at (closed so e) m = go (endOfLine s e) (end-closes s e)
+    where
+      go : (x : EndOfLine) → EndCloses s e x → Onward s at (lineEnds x (says (clause extra so)) (refuses s Reason.lineEndExpected e so))
+      go end.Missing c = back (omega arith) (refuses s Reason.lineEndExpected e so) (refuses-onward Reason.lineEndExpected e so)
+      go (end.Past n) c = omega arith
+  clause-of-onward extra at (stopped r so) m = omega arith
+
+  pub no-clause-onward : (endPermitted : Bool) (at : ℕ) → Onward s at (noClause s endPermitted at)
+  unfolding noClause
+  no-clause-onward endPermitted at =
+      chosen (Onward s at) endPermitted
+      (λ _. chosen (Onward s at) (atEnd s at) (λ e. let l = leb-true (length s) at e in omega arith) (λ _. refuses-onward Reason.clauseExpected at []))
+      (λ _. refuses-onward Reason.clauseExpected at [])
+
+number-stands : {A : Type 0} (P : A → Type 0) (i : Int) {a b : A} → P a → P b → P (numberStands i a b)
+number-stands P int.Missing h k = k
+number-stands P (int.Zero n) h k = h
+number-stands P (int.Literal v n) h k = h
+number-stands P int.TooBig h k = h
+
+module _ (s : List ℕ) (limits : Limits) (room : ℕ) where
+  body-onward : (extra at : ℕ) → Onward s at (body s limits room extra at)
+  unfolding body
+  body-onward extra at = clause-of-onward s extra at (literals s (limits .literals) room at) (literals-span s (limits .literals) room at)
+
+  owed-onward : (extra at : ℕ) → Onward s at (owed s limits room extra at)
+  unfolding owed
+  owed-onward extra at =
+      let e = linebreaks s at in
+      number-stands (Onward s at) (intAt s (limits .literals) e)
+      (back (linebreaks-spans s at) (body s limits room extra e) (body-onward extra e))
+      (back (linebreaks-spans s at) (refuses s Reason.literalsExpected e []) (refuses-onward s Reason.literalsExpected e []))
+
+  marked-onward : (big : Reason) (endPermitted : Bool) (at : ℕ) (u : Uint) → UintMoves s at u → Onward s at (marked s limits room big endPermitted at u)
+  marked-onward big endPermitted at uint.Missing m = no-clause-onward s endPermitted at
+  marked-onward big endPermitted at uint.TooBig m = refuses-onward s big at []
+  marked-onward big endPermitted at (uint.Value extra e) m = back (omega arith) (owed s limits room extra e) (owed-onward extra e)
+
+  -- A clause ends within the text and leaves fewer to come; the end is at the text's end; a refusal's place is within reach.
+  pub clause-at-onward : (f : Format) (endPermitted : Bool) (at : ℕ) → Onward s at (clauseAt s limits room f endPermitted at)
+  unfolding clauseAt
+  clause-at-onward Plain endPermitted at =
+      number-stands (Onward s at) (intAt s (limits .literals) at) (body-onward 0 at) (no-clause-onward s endPermitted at)
+  clause-at-onward Weighted endPermitted at = marked-onward Reason.weightTooBig endPermitted at (uintAt s largest at) (uint-moves s largest at)
+  clause-at-onward Grouped endPermitted at =
+      marked-onward Reason.groupTooBig endPermitted at (bracedUintAt s (limits .groups) at) (braced-uint-moves s (limits .groups) at)

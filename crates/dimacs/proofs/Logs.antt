@@ -1,0 +1,174 @@
+-- The laws of reading a log: a value and then the rest of the values, a line and then the rest of the lines. Assumes nothing.
+use Prim.Native.Nat.{ℕ, zero, suc, _+_, _-_, _≤_, _<_, max}
+use mathlib.Core.Bool.{Bool, true, false, _||_}
+use mathlib.Core.List.{List, [], _∷_}
+use mathlib.Core.Path.{_≡_, refl}
+use native.Mathlib.Omega.{arith}
+use borrow.Author.Tests.{leb-false}
+use lib.Dec.{leb}
+use lib.ListN.{length}
+use lib.IntN.{ℤ}
+use Rattle.dimacs.specs.Loop.{Step, again, answer}
+use Rattle.dimacs.specs.Bytes.{bytes}
+use Rattle.dimacs.specs.Names.{Reason, numbered, refusal, ceiling}
+use Rattle.dimacs.specs.Tokens.{unmoved, atEnd, blanks, nextLine, fixed, intAt, endOfLine, lineEnds}
+use Rattle.dimacs.specs.Logs.{LogAnswer, accepted, refusedLog, Assignment, unbegun, begun, closed, Solution, unsaid, Log, logAt, isClosed, isSaid, Values, values, stopped, Row, onValue, nextValue, valuesFrom, lineRead, valuesRead, valueLine, solutionIs, solutionLine, logEnd, otherLine, logLine, logFrom, log}
+use Rattle.dimacs.specs.declared.Mode.{Mode}
+use Rattle.dimacs.specs.declared.Mode.the-variants.{Strict, Lenient}
+use Rattle.dimacs.specs.declared.Verdict.{Verdict}
+use Rattle.dimacs.specs.declared.Verdict.the-variants.{Yes, No, Unknown}
+use Rattle.dimacs.specs.declared.Int.{Int}
+use Rattle.dimacs.specs.declared.Int.the-variants as int
+use Rattle.dimacs.specs.declared.EndOfLine.{EndOfLine}
+use Rattle.dimacs.specs.declared.EndOfLine.the-variants as end
+use Rattle.dimacs.proofs.Loops.{Leads, Falls, after, unrolled, kept}
+use Rattle.dimacs.proofs.Tests.{chosen, neither-right}
+use Rattle.dimacs.proofs.Spans.{Spans, then-spans, Moves, moves, then-moves, moves-then, EndCloses, end-closes, blanks-spans, next-line-spans, next-line-moves, fixed-spans, IntMoves, int-moves}
+
+-- The literals of a line end, or are refused, within reach.
+abbrev pub ValuesSpan : List ℕ → ℕ → Values → Type 0
+ValuesSpan s at (values e a so) = Spans s at e
+ValuesSpan s at (stopped r so) = Spans s at (r .place)
+
+-- A line leads to a later place within the text, or to an answer whose refusal is within reach.
+abbrev pub LogSpans : List ℕ → ℕ → LogAnswer → Type 0
+LogSpans s at (accepted v so) = Unit {0}
+LogSpans s at (refusedLog r so) = Spans s at (r .place)
+
+abbrev pub LineLeads : List ℕ → ℕ → Step Log LogAnswer → Type 0
+LineLeads s at = Leads (λ l. Moves s at (l .at)) (LogSpans s at)
+
+module _ (s : List ℕ) (room : ℕ) where
+  rest : Row → ℕ
+  rest r = length s - r .at
+
+  values-falls : (r : Row) → Falls rest r (nextValue s room r)
+  unfolding nextValue rest
+  values-falls r = go (intAt s ceiling (r .at)) (int-moves s ceiling (r .at))
+    where
+      go : (i : Int) → IntMoves s (r .at) i → Falls rest r (onValue s room i (r .at) (r .so))
+      go int.Missing m = tt
+      go (int.Zero n) m = tt
+      go (int.Literal v n) m = chosen (Falls rest r) (leb room (length (r .so))) (λ _. tt) (λ _. omega arith)
+      go int.TooBig m = tt
+
+  -- One value, and then the rest of them.
+  pub values-step : (r : Row) → valuesFrom s room r ≡ after (nextValue s room r) (valuesFrom s room)
+  unfolding valuesFrom rest
+  values-step r = unrolled (nextValue s room) (values 0 begun []) rest values-falls (suc (length s)) r (omega arith)
+
+  values-keep : (at : ℕ) (r : Row) → Spans s at (r .at) → Leads (λ x. Spans s at (x .at)) (ValuesSpan s at) (nextValue s room r)
+  unfolding nextValue numbered
+  values-keep at r h = go (intAt s ceiling (r .at)) (int-moves s ceiling (r .at))
+    where
+      On : Step Row Values → Type 0
+      On = Leads (λ x. Spans s at (x .at)) (ValuesSpan s at)
+
+      go : (i : Int) → IntMoves s (r .at) i → On (onValue s room i (r .at) (r .so))
+      go int.Missing m = h
+      go (int.Zero n) m = omega arith
+      go (int.Literal v n) m = chosen On (leb room (length (r .so))) (λ _. h) (λ _. omega arith)
+      go int.TooBig m = h
+
+  pub values-span : (r : Row) → ValuesSpan s (r .at) (valuesFrom s room r)
+  unfolding valuesFrom rest
+  values-span r =
+      kept (nextValue s room) (values 0 begun []) rest values-falls (λ x. Spans s (r .at) (x .at)) (ValuesSpan s (r .at)) (values-keep (r .at))
+      (suc (length s)) r (omega arith) (omega arith)
+
+  -- A line that is read from a place past its first bytes.
+  line-read-leads : (at e : ℕ) (solution : Solution) (a : Assignment) (so : List ℤ) → Moves s at e → LineLeads s at (lineRead s e solution a so)
+  unfolding numbered
+  line-read-leads at e solution a so m = go (endOfLine s e) (end-closes s e)
+    where
+      go : (x : EndOfLine) → EndCloses s e x
+          → LineLeads s at (lineEnds x (λ next. again (logAt next solution a so)) (answer (refusedLog (refusal s Reason.lineEndExpected e) so)))
+      go end.Missing c = omega arith
+      go (end.Past n) c = omega arith
+
+  value-line-leads : (at e : ℕ) (l : Log) → Moves s at e → LineLeads s at (valueLine s room e l)
+  unfolding valueLine
+  value-line-leads at e l m =
+      let r : Row = record { at = blanks s e; so = l .so } in
+      go (valuesFrom s room r) (values-span r)
+    where
+      k : Moves s at (blanks s e)
+      k = then-moves m (blanks-spans s e)
+
+      go : (v : Values) → ValuesSpan s (blanks s e) v → LineLeads s at (valuesRead s (l .solution) v)
+      go (values n a so) h = line-read-leads at n (l .solution) a so (then-moves k h)
+      go (stopped r so) h = omega (arith, k)
+
+  solution-is-leads : (at e : ℕ) (v : Verdict) (w : List ℕ) (l : Log) (otherwise : Step Log LogAnswer) → Moves s at e → LineLeads s at otherwise
+      → LineLeads s at (solutionIs s v w e l otherwise)
+  solution-is-leads at e v w l otherwise m h =
+      chosen (LineLeads s at) (unmoved e (fixed s w e)) (λ _. h)
+      (λ _. line-read-leads at (fixed s w e) _ (l .assignment) (l .so) (then-moves m (fixed-spans s e w)))
+
+  solution-line-leads : (at e : ℕ) (l : Log) → Moves s at e → LineLeads s at (solutionLine s e l)
+  unfolding solutionLine numbered
+  solution-line-leads at e l m =
+      solution-is-leads at e Yes (bytes "SATISFIABLE") l _ m
+      (solution-is-leads at e No (bytes "UNSATISFIABLE") l _ m
+      (solution-is-leads at e Unknown (bytes "UNKNOWN") l _ m
+      (omega arith)))
+
+  log-end-spans : (at : ℕ) (solution : Solution) (so : List ℤ) (a : Assignment) → LogSpans s at (logEnd s at solution so a)
+  unfolding numbered
+  log-end-spans at solution so unbegun = tt
+  log-end-spans at solution so begun = omega arith
+  log-end-spans at solution so closed = tt
+
+  other-line-leads : (mode : Mode) (l : Log) → l .at < length s → LineLeads s (l .at) (otherLine s mode l)
+  unfolding numbered
+  other-line-leads Strict l h = omega arith
+  other-line-leads Lenient l h = next-line-moves s (l .at) h
+
+module _ (s : List ℕ) (mode : Mode) (room : ℕ) where
+  -- Each line leads on.
+  pub log-line-leads : (l : Log) → LineLeads s (l .at) (logLine s mode room l)
+  unfolding logLine
+  log-line-leads l =
+      let at = l .at in
+      let c = fixed s (bytes "c ") at in
+      let v = fixed s (bytes "v ") at in
+      let e = fixed s (bytes "s ") at in
+      chosen (LineLeads s at) (unmoved at c)
+      (λ _. chosen (LineLeads s at) (isClosed (l .assignment) || unmoved at v)
+      (λ _. chosen (LineLeads s at) (isSaid (l .solution) || unmoved at e)
+      (λ _. chosen (LineLeads s at) (atEnd s at)
+      (λ _. log-end-spans s room at (l .solution) (l .so) (l .assignment))
+      (λ k. other-line-leads s room mode l (leb-false (length s) at k)))
+      (λ k. solution-line-leads s room at e l (moves (fixed-spans s at (bytes "s ")) (neither-right (isSaid (l .solution)) (unmoved at e) k))))
+      (λ k. value-line-leads s room at v l (moves (fixed-spans s at (bytes "v ")) (neither-right (isClosed (l .assignment)) (unmoved at v) k))))
+      (λ k. then-moves (moves (fixed-spans s at (bytes "c ")) k) (next-line-spans s c))
+
+  rest-of : Log → ℕ
+  rest-of l = length s - l .at
+
+  log-falls : (l : Log) → Falls rest-of l (logLine s mode room l)
+  unfolding rest-of
+  log-falls l = go (logLine s mode room l) (log-line-leads l)
+    where
+      go : (t : Step Log LogAnswer) → LineLeads s (l .at) t → Falls rest-of l t
+      go (again x) h = omega arith
+      go (answer a) h = tt
+
+  -- One line, and then the rest of them.
+  pub log-step : (l : Log) → logFrom s mode room l ≡ after (logLine s mode room l) (logFrom s mode room)
+  unfolding logFrom rest-of
+  log-step l = unrolled (logLine s mode room) (accepted Unknown []) rest-of log-falls (suc (length s)) l (omega arith)
+
+  pub log-spans : LogSpans s 0 (log s mode room)
+  unfolding log logFrom rest-of
+  log-spans =
+      kept (logLine s mode room) (accepted Unknown []) rest-of log-falls (λ l. Spans s 0 (l .at)) (LogSpans s 0)
+      (λ l h. go (l .at) h (logLine s mode room l) (log-line-leads l)) (suc (length s)) (logAt 0 unsaid unbegun []) (omega arith) (omega arith)
+    where
+      to : (at : ℕ) → Spans s 0 at → (a : LogAnswer) → LogSpans s at a → LogSpans s 0 a
+      to at h (accepted v so) k = tt
+      to at h (refusedLog r so) k = then-spans h k
+
+      go : (at : ℕ) → Spans s 0 at → (t : Step Log LogAnswer) → LineLeads s at t → Leads (λ l. Spans s 0 (l .at)) (LogSpans s 0) t
+      go at h (again x) k = omega arith
+      go at h (answer a) k = to at h a k

@@ -1,0 +1,127 @@
+-- The laws of `loop` and `said`: one step, and then the loop from where it leads. No file but this one counts steps. Assumes nothing.
+use Prim.Native.Nat.{ℕ, zero, suc, _+_, _≤_, _<_}
+use mathlib.Core.List.{List, [], _∷_}
+use mathlib.Core.Path.{_≡_, refl, ap, sym, _∙_, subst⁻¹}
+use native.Mathlib.Omega.{arith}
+use lib.ListN.{length}
+use Rattle.dimacs.specs.Loop.{Step, again, answer, loop, Turn, on, last, said}
+
+-- What follows a step.
+abbrev pub after : {S A : Type 0} → Step S A → (S → A) → A
+after (again s) f = f s
+after (answer a) f = a
+
+-- What is so of the state or the answer that a step leads to.
+abbrev pub Leads : {S A : Type 0} → (S → Type 0) → (A → Type 0) → Step S A → Type 0
+Leads P Q (again s) = P s
+Leads P Q (answer a) = Q a
+
+-- A step that is taken again lowers a measure.
+abbrev pub Falls : {S A : Type 0} → (S → ℕ) → S → Step S A → Type 0
+Falls μ s = Leads (λ s′. μ s′ < μ s) (λ a. Unit {0})
+
+leads-on : {S A : Type 0} {P P′ : S → Type 0} (t : Step S A) → ((s : S) → P s → P′ s) → Leads P (λ a. Unit {0}) t → Leads P′ (λ a. Unit {0}) t
+leads-on (again s) f h = f s h
+leads-on (answer a) f h = h
+
+after-same : {S A : Type 0} (t : Step S A) (f g : S → A) → Leads (λ s. f s ≡ g s) (λ a. Unit {0}) t → after t f ≡ after t g
+after-same (again s) f g h = h
+after-same (answer a) f g h = refl
+
+after-is : {S A : Type 0} (Q : A → Type 0) (t : Step S A) (f : S → A) → Leads (λ s. Q (f s)) Q t → Q (after t f)
+after-is Q (again s) f h = h
+after-is Q (answer a) f h = h
+
+pub loop-after : {S A : Type 0} (step : S → Step S A) (over : A) (n : ℕ) (s : S) → loop step over (suc n) s ≡ after (step s) (loop step over n)
+unfolding loop
+loop-after step over n s = go (step s)
+  where
+    go : (t : Step _ _) → (elim t as (λ _. _) [ again s′ ↦ loop step over n s′ | answer a ↦ a ]) ≡ after t (loop step over n)
+    go (again s′) = refl
+    go (answer a) = refl
+
+module _ {S A : Type 0} (step : S → Step S A) (over : A) (μ : S → ℕ) (falls : (s : S) → Falls μ s (step s)) where
+  pub enough : (n m : ℕ) (s : S) → μ s < n → μ s < m → loop step over n s ≡ loop step over m s
+  enough zero m s h k = absurd (omega arith)
+  enough (suc n) zero s h k = absurd (omega arith)
+  enough (suc n) (suc m) s h k =
+      loop-after step over n s
+      ∙ after-same (step s) (loop step over n) (loop step over m)
+      (leads-on (step s) (λ s′ l. enough n m s′ (omega arith) (omega arith)) (falls s))
+      ∙ sym (loop-after step over m s)
+
+  -- Where more steps are granted than the measure is high, the loop is one step and then the loop.
+  pub unrolled : (n : ℕ) (s : S) → μ s < n → loop step over n s ≡ after (step s) (loop step over n)
+  unrolled zero s h = absurd (omega arith)
+  unrolled (suc n) s h =
+      loop-after step over n s
+      ∙ after-same (step s) (loop step over n) (loop step over (suc n))
+      (leads-on (step s) (λ s′ l. enough n (suc n) s′ (omega arith) (omega arith)) (falls s))
+
+  -- What each step keeps, and each answer then has, the loop's answer has.
+  pub kept : (P : S → Type 0) (Q : A → Type 0) → ((s : S) → P s → Leads P Q (step s)) → (n : ℕ) (s : S) → μ s < n → P s → Q (loop step over n s)
+  kept P Q keeps zero s h p = absurd (omega arith)
+  kept P Q keeps (suc n) s h p =
+      subst⁻¹ Q (loop-after step over n s) (after-is Q (step s) (loop step over n) (both (step s) (falls s) (keeps s p) (λ s′ l q. kept P Q keeps n s′ (omega arith) q)))
+    where
+      both : (t : Step S A) → Falls μ s t → Leads P Q t → ((s′ : S) → μ s′ < μ s → P s′ → Q (loop step over n s′)) → Leads (λ s′. Q (loop step over n s′)) Q t
+      both (again s′) l q k = k s′ l q
+      both (answer a) l q k = q
+
+-- What follows a turn.
+abbrev pub andOn : {S A : Type 0} → Turn S A → (S → List A) → List A
+andOn (on a s) f = a ∷ f s
+andOn (last a) f = a ∷ []
+
+-- What is so of the answer and the state that a turn gives, or of the last answer.
+abbrev pub Gives : {S A : Type 0} → (A → S → Type 0) → (A → Type 0) → Turn S A → Type 0
+Gives P Q (on a s) = P a s
+Gives P Q (last a) = Q a
+
+-- A turn that is not the last lowers a measure.
+abbrev pub Lowers : {S A : Type 0} → (S → ℕ) → S → Turn S A → Type 0
+Lowers μ s = Gives (λ a s′. μ s′ < μ s) (λ a. Unit {0})
+
+said-on : {S A : Type 0} (turn : S → Turn S A) (n : ℕ) (s : S) → said turn (suc n) s ≡ andOn (turn s) (said turn n)
+unfolding said
+said-on turn n s = go (turn s)
+  where
+    go : (t : Turn _ _) → (elim t as (λ _. _) [ on a s′ ↦ a ∷ said turn n s′ | last a ↦ a ∷ [] ]) ≡ andOn t (said turn n)
+    go (on a s′) = refl
+    go (last a) = refl
+
+gives-same : {S A : Type 0} (t : Turn S A) (f g : S → List A) → Gives (λ a s. f s ≡ g s) (λ a. Unit {0}) t → andOn t f ≡ andOn t g
+gives-same (on a s) f g h = ap (λ l. a ∷ l) h
+gives-same (last a) f g h = refl
+
+gives-on : {S A : Type 0} {P P′ : A → S → Type 0} (t : Turn S A) → ((a : A) (s : S) → P a s → P′ a s) → Gives P (λ a. Unit {0}) t → Gives P′ (λ a. Unit {0}) t
+gives-on (on a s) f h = f a s h
+gives-on (last a) f h = h
+
+module _ {S A : Type 0} (turn : S → Turn S A) (μ : S → ℕ) (lowers : (s : S) → Lowers μ s (turn s)) where
+  said-enough : (n m : ℕ) (s : S) → μ s < n → μ s < m → said turn n s ≡ said turn m s
+  said-enough zero m s h k = absurd (omega arith)
+  said-enough (suc n) zero s h k = absurd (omega arith)
+  said-enough (suc n) (suc m) s h k =
+      said-on turn n s
+      ∙ gives-same (turn s) (said turn n) (said turn m) (gives-on (turn s) (λ a s′ l. said-enough n m s′ (omega arith) (omega arith)) (lowers s))
+      ∙ sym (said-on turn m s)
+
+  -- Where more turns are granted than the measure is high, the answers are those of one turn and then the rest.
+  pub said-unrolled : (n : ℕ) (s : S) → μ s < n → said turn n s ≡ andOn (turn s) (said turn n)
+  said-unrolled zero s h = absurd (omega arith)
+  said-unrolled (suc n) s h =
+      said-on turn n s
+      ∙ gives-same (turn s) (said turn n) (said turn (suc n)) (gives-on (turn s) (λ a s′ l. said-enough n (suc n) s′ (omega arith) (omega arith)) (lowers s))
+
+  -- What holds of the answers of a last turn, and of an answer before answers of which it holds, holds of all.
+  pub said-has : (P : S → List A → Type 0)
+      → ((s : S) → Gives (λ a s′. (l : List A) → μ s′ < μ s → P s′ l → P s (a ∷ l)) (λ a. P s (a ∷ [])) (turn s))
+      → (n : ℕ) (s : S) → μ s < n → P s (said turn n s)
+  said-has P has zero s h = absurd (omega arith)
+  said-has P has (suc n) s h = subst⁻¹ (P s) (said-on turn n s) (go (turn s) (lowers s) (has s) (λ s′ l. said-has P has n s′ (omega arith)))
+    where
+      go : (t : Turn S A) → Lowers μ s t → Gives (λ a s′. (l : List A) → μ s′ < μ s → P s′ l → P s (a ∷ l)) (λ a. P s (a ∷ [])) t
+          → ((s′ : S) → μ s′ < μ s → P s′ (said turn n s′)) → P s (andOn t (said turn n))
+      go (on a s′) l g k = g (said turn n s′) l (k s′ l)
+      go (last a) l g k = g

@@ -1,0 +1,174 @@
+-- A text of n bytes has at most (n + 1) / 2 clauses; its answers end in one end or one refusal, which is then repeated. Assumes nothing.
+use Prim.Native.Nat.{ℕ, zero, suc, _+_, _/_, _≤_, _<_, max}
+use mathlib.Core.Bool.{true, false}
+use mathlib.Core.List.{List, [], _∷_}
+use mathlib.Core.Path.{_≡_, refl}
+use native.Mathlib.Omega.{arith}
+use lib.Dec.{leb, eqb}
+use lib.ListN.{length}
+use lib.IntN.{ℤ}
+use Rattle.dimacs.specs.Loop.{Turn, on, last}
+use Rattle.dimacs.specs.Bytes.{bytes}
+use Rattle.dimacs.specs.Names.{Reason, numbered, refusal, ceiling, largest}
+use Rattle.dimacs.specs.Tokens.{unmoved, blanks, lines, word, uintAt, endOfLine, lineEnds}
+use Rattle.dimacs.specs.Header.{Opening, header, noHeader, badHeader, formatWord, headerOf, counted, count, thirdCount, counts, afterP, opening, Limits, unlimited, limitsOf}
+use Rattle.dimacs.specs.Clauses.{Answer, clause, ended, refused, Answered, says, noClause, clauseAt}
+use Rattle.dimacs.specs.Texts.{Cursor, cursorAt, oneMore, nextClause, answerBy, answerAt, settledBy, settled, turnBy, turn, answersFrom, begin, Text, textBy, text}
+use Rattle.dimacs.specs.declared.Format.{Format}
+use Rattle.dimacs.specs.declared.Format.the-variants.{Plain, Weighted, Grouped}
+use Rattle.dimacs.specs.declared.Mode.{Mode}
+use Rattle.dimacs.specs.declared.Refusal.{Refusal}
+use Rattle.dimacs.specs.declared.Uint.{Uint}
+use Rattle.dimacs.specs.declared.Uint.the-variants as uint
+use Rattle.dimacs.specs.declared.EndOfLine.{EndOfLine}
+use Rattle.dimacs.specs.declared.EndOfLine.the-variants as end
+use Rattle.dimacs.specs.declared.Final.{Final}
+use Rattle.dimacs.specs.declared.Final.the-variants as final
+use Rattle.dimacs.proofs.Loops.{andOn, Gives, Lowers, said-unrolled, said-has}
+use Rattle.dimacs.proofs.Tests.{chosen}
+use Rattle.dimacs.proofs.Spans.{Spans, then-spans, EndCloses, end-closes, blanks-spans, lines-spans, word-spans, UintMoves, uint-moves}
+use Rattle.dimacs.proofs.Clauses.{toCome, Placed, Onward, back, no-clause-onward, clause-at-onward}
+
+-- Where a text opens: the clauses begin, or the header is refused, within the text.
+abbrev pub Opens : List ℕ → Opening → Type 0
+Opens s (header h at) = at ≤ length s
+Opens s (noHeader at) = at ≤ length s
+Opens s (badHeader r) = r .place ≤ length s
+
+module _ (s : List ℕ) where
+  counted-opens : (none big : Reason) (at : ℕ) (then : ℕ → ℕ → Opening) → at ≤ length s → ((n e : ℕ) → e ≤ length s → Opens s (then n e))
+      → (u : Uint) → UintMoves s at u → Opens s (counted s none big at then u)
+  unfolding numbered
+  counted-opens none big at then h k uint.Missing m = h
+  counted-opens none big at then h k uint.TooBig m = h
+  counted-opens none big at then h k (uint.Value n e) m = k n e (m .within)
+
+  count-opens : (none big : Reason) (limit at : ℕ) (then : ℕ → ℕ → Opening) → at ≤ length s → ((n e : ℕ) → e ≤ length s → Opens s (then n e))
+      → Opens s (count s none big limit at then)
+  unfolding count
+  count-opens none big limit at then h k = counted-opens none big at then h k (uintAt s limit at) (uint-moves s limit at)
+
+  third-opens : (f : Format) (at : ℕ) (then : ℕ → ℕ → Opening) → at ≤ length s → ((n e : ℕ) → e ≤ length s → Opens s (then n e))
+      → Opens s (thirdCount s f at then)
+  unfolding thirdCount
+  third-opens Plain at then h k = k 0 at h
+  third-opens Weighted at then h k = count-opens Reason.thirdCountExpected Reason.thirdCountTooBig largest at then h k
+  third-opens Grouped at then h k = count-opens Reason.thirdCountExpected Reason.thirdCountTooBig largest at then h k
+
+  counts-opens : (f : Format) (at : ℕ) → at ≤ length s → Opens s (counts s f at)
+  unfolding counts numbered
+  counts-opens f at h =
+      count-opens _ _ _ at _ h λ v a₁ h₁.
+      count-opens _ _ _ a₁ _ h₁ λ c a₂ h₂.
+      third-opens f a₂ _ h₂ λ t a₃ h₃.
+      close (headerOf v c t) a₃ h₃ (endOfLine s a₃) (end-closes s a₃)
+    where
+      close : (h : _) (a : ℕ) → a ≤ length s → (x : EndOfLine) → EndCloses s a x → Opens s (lineEnds x (header h) (badHeader (refusal s Reason.lineEndExpected a)))
+      close h a l end.Missing c = l
+      close h a l (end.Past e) c = omega arith
+
+  pub opening-opens : (f : Format) → Opens s (opening s f)
+  unfolding opening afterP numbered
+  opening-opens f =
+      let a = lines s (blanks s 0) in
+      let p = word s (bytes "p") a in
+      let e = word s (formatWord f) p in
+      let h = then-spans (blanks-spans s 0) (lines-spans s (blanks s 0)) in
+      let k = then-spans h (word-spans s (bytes "p") a) in
+      let l = then-spans k (word-spans s (formatWord f) p) in
+      chosen (Opens s) (unmoved a p) (λ _. omega arith) (λ _. chosen (Opens s) (unmoved p e) (λ _. omega arith) (λ _. counts-opens f e (omega arith)))
+
+-- So many clauses, and then the end or a refusal.
+pub data Finishes : ℕ → List Answer → Type 0 where
+  ends : Finishes 0 (ended ∷ [])
+  stops : {r : Refusal} {so : List ℤ} → Finishes 0 (refused r so ∷ [])
+  clause-then : {n extra : ℕ} {so : List ℤ} {l : List Answer} → Finishes n l → Finishes (suc n) (clause extra so ∷ l)
+
+pub record Finished (most : ℕ) (l : List Answer) : Type 0 where
+  pub clauses : ℕ
+  pub few : clauses ≤ most
+  pub so : Finishes clauses l
+
+module _ (s : List ℕ) (f : Format) (limits : Limits) (room : ℕ) where
+  -- Where the next answer stands.
+  pub next-clause-onward : (count at : ℕ) → Onward s at (nextClause s f limits room count at)
+  unfolding nextClause
+  next-clause-onward count at =
+      let e = lines s (blanks s at) in
+      let h = then-spans (blanks-spans s at) (lines-spans s (blanks s at)) in
+      chosen (Onward s at) (eqb (limits .clauses) 0) (λ _. back h (clauseAt s limits room f true e) (clause-at-onward s limits room f true e))
+      (λ _. chosen (Onward s at) (leb (limits .clauses) count)
+      (λ _. back h (noClause s true e) (no-clause-onward s true e))
+      (λ _. back h (clauseAt s limits room f false e) (clause-at-onward s limits room f false e)))
+
+  left : Cursor → ℕ
+  left c = toCome s (c .place)
+
+  turn-lowers : (c : Cursor) → Lowers left c (turn s f limits room c)
+  unfolding turn answerAt left
+  turn-lowers c = go (c .final)
+    where
+      by : (a : Answer) (e : ℕ) → Placed s (c .place) e a → (x : Final) → Lowers left c (turnBy (settledBy (cursorAt (c .place) (c .count) x) e a) a)
+      by (clause extra so) e h x = h .fewer
+      by ended e h x = tt
+      by (refused r so) e h x = tt
+
+      go : (x : Final)
+          → Lowers left c
+          (turnBy (settled (cursorAt (c .place) (c .count) x) (answerBy s f limits room c x)) (answerBy s f limits room c x .answer))
+      go final.Open = let d = nextClause s f limits room (c .count) (c .place) in by (d .answer) (d .place) (next-clause-onward (c .count) (c .place)) final.Open
+      go final.Ended = tt
+      go (final.Refused r) = tt
+
+  -- One answer, and then those from the cursor after it.
+  pub answers-step : (c : Cursor) → answersFrom s f limits room c ≡ andOn (turn s f limits room c) (answersFrom s f limits room)
+  unfolding answersFrom left
+  answers-step c = said-unrolled (turn s f limits room) left turn-lowers (length s + 2) c (omega arith)
+
+  -- No more clauses than may come, and then one end or one refusal.
+  pub answers-finish : (c : Cursor) → Finished (toCome s (c .place)) (answersFrom s f limits room c)
+  unfolding answersFrom turn left
+  answers-finish c =
+      said-has (turn s f limits room) left turn-lowers (λ x l. Finished (left x) l)
+      (λ x. let d = answerAt s f limits room x in one (left x) (settled x d) (d .answer))
+      (length s + 2) c (omega arith)
+    where
+      one : (n : ℕ) (y : Cursor) (a : Answer)
+          → Gives (λ b z. (l : List Answer) → left z < n → Finished (left z) l → Finished n (b ∷ l)) (λ b. Finished n (b ∷ [])) (turnBy y a)
+      one n y (clause extra so) = λ l h k. record { clauses = suc (k .clauses); few = omega (arith, k .few); so = clause-then (k .so) }
+      one n y ended = record { clauses = 0; few = omega arith; so = ends }
+      one n y (refused r so) = record { clauses = 0; few = omega arith; so = stops }
+
+-- An answer that is the end or a refusal is answered again from the cursor after it, the refusal with no literals, and that cursor stays.
+pub record Repeats (s : List ℕ) (f : Format) (limits : Limits) (room : ℕ) (c : Cursor) (again : Answered) : Type 0 where
+  pub answer : answerAt s f limits room c ≡ again
+  pub cursor : settled c again ≡ c
+
+abbrev pub RepeatsAfter : List ℕ → Format → Limits → ℕ → Cursor → ℕ → Answer → Type 0
+RepeatsAfter s f limits room c at (clause extra so) = Unit {0}
+RepeatsAfter s f limits room c at ended = Repeats s f limits room (settledBy c at ended) (says ended at)
+RepeatsAfter s f limits room c at (refused r so) = Repeats s f limits room (settledBy c at (refused r so)) (says (refused r []) at)
+
+pub repeated : (s : List ℕ) (f : Format) (limits : Limits) (room : ℕ) (c : Cursor) (at : ℕ) (a : Answer) → RepeatsAfter s f limits room c at a
+unfolding answerAt
+repeated s f limits room c at (clause extra so) = tt
+repeated s f limits room c at ended = record { answer = refl; cursor = refl }
+repeated s f limits room c at (refused r so) = record { answer = refl; cursor = refl }
+
+-- A whole text: a refused header has no answers; else they finish, with at most (n + 1) / 2 clauses in n bytes.
+abbrev pub TextEnds : List ℕ → Opening → List Answer → Type 0
+TextEnds s (header h at) l = Finished ((length s + 1) / 2) l
+TextEnds s (noHeader at) l = Finished ((length s + 1) / 2) l
+TextEnds s (badHeader r) l = l ≡ []
+
+pub text-ends : (f : Format) (m : Mode) (room : ℕ) (s : List ℕ) → TextEnds s (text f m room s .opened) (text f m room s .answers)
+unfolding text
+text-ends f m room s = go (opening s f)
+  where
+    from : (limits : Limits) (at : ℕ) → Finished ((length s + 1) / 2) (answersFrom s f limits room (begin at))
+    from limits at = let d = answers-finish s f limits room (begin at) in record { clauses = d .clauses; few = omega (arith, d .few); so = d .so }
+
+    go : (o : Opening) → TextEnds s (textBy f m room s o .opened) (textBy f m room s o .answers)
+    go (header h at) = from (limitsOf f m h) at
+    go (noHeader at) = from unlimited at
+    go (badHeader r) = refl

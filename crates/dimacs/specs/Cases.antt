@@ -1,0 +1,239 @@
+-- The texts on both sides of document 01, with what the definition says of each.
+use Prim.Native.Nat.{ℕ}
+use Prim.Native.String.{String}
+use mathlib.Core.List.{List, [], _∷_, map, flatMap}
+use mathlib.Core.Path.{_≡_, refl}
+use lib.ListN.{length}
+use lib.IntN.{ℤ, pos, negsuc}
+use Rattle.dimacs.specs.Loop.{loop, said}
+use Rattle.dimacs.specs.Bytes.{bytes}
+use Rattle.dimacs.specs.Names.{numbered}
+use Rattle.dimacs.specs.Tokens.{run, past, begins, decimal, lineEnd, nextLine, endOfLine, fixed, wordEnds, word, comment, newline, commentOrNewline, lines, linebreaks, unsigned, braced, magnitude, uintAt, bracedUintAt, intAt, stoppedAt}
+use Rattle.dimacs.specs.Header.{headerOf, Opening, header, noHeader, badHeader, count, thirdCount, counts, afterP, opening}
+use Rattle.dimacs.specs.Clauses.{nextLiteral, literalsFrom, literals, Answer, clause, ended, refused, noClause, body, owed, clauseAt}
+use Rattle.dimacs.specs.Texts.{nextClause, answerAt, turn, answersFrom, Text, text}
+use Rattle.dimacs.specs.Logs.{LogAnswer, accepted, refusedLog, nextValue, valuesFrom, valueLine, solutionLine, logLine, logFrom, log}
+use Rattle.dimacs.specs.Writing.{Written, written, unwritten, nextDigit, digits, headerLine, clauseLine, writeHeader, writeClause}
+use Rattle.dimacs.specs.declared.Format.{Format}
+use Rattle.dimacs.specs.declared.Format.the-variants.{Plain, Weighted, Grouped}
+use Rattle.dimacs.specs.declared.Mode.{Mode}
+use Rattle.dimacs.specs.declared.Mode.the-variants.{Strict, Lenient}
+use Rattle.dimacs.specs.declared.Refusal.{Refusal}
+use Rattle.dimacs.specs.declared.Verdict.{Verdict}
+use Rattle.dimacs.specs.declared.Verdict.the-variants.{Yes, No, Unknown}
+
+-- A line of what is said of a text: its header's counts; a clause, with its weight or group or 0; a refusal's number, place and k; a log's verdict.
+pub data Line : Type 0 where
+  Header : ℕ → ℕ → ℕ → Line
+  NoHeader : Line
+  Clause : ℕ → List ℤ → Line
+  End : Line
+  Refused : ℕ → ℕ → ℕ → Line
+  Says : Verdict → List ℤ → Line
+
+abbrev refusedLine : Refusal → List ℤ → Line
+refusedLine r so = Refused (r .number) (r .place) (length so)
+
+abbrev answerLine : Answer → Line
+answerLine (clause extra so) = Clause extra so
+answerLine ended = End
+answerLine (refused r so) = refusedLine r so
+
+abbrev openingLines : Opening → List Line → List Line
+openingLines (header h at) rest = Header (h .variables) (h .clauses) (h .third) ∷ rest
+openingLines (noHeader at) rest = NoHeader ∷ rest
+openingLines (badHeader r) rest = refusedLine r [] ∷ []
+
+abbrev textLines : Text → List Line
+textLines t = openingLines (t .opened) (map answerLine (t .answers))
+
+abbrev logLines : LogAnswer → List Line
+logLines (accepted v so) = Says v so ∷ []
+logLines (refusedLog r so) = refusedLine r so ∷ []
+
+-- A text of clauses, or a log.
+pub data Kind : Type 0 where
+  Formula : Format → Kind
+  Log : Kind
+
+pub record Case : Type 0 where
+  pub kind : Kind
+  pub mode : Mode
+  pub room : ℕ
+  pub quoted : String
+  pub expected : List Line
+
+abbrev linesBy : Kind → Mode → ℕ → List ℕ → List Line
+linesBy (Formula f) m room s = textLines (text f m room s)
+linesBy Log m room s = logLines (log s m room)
+
+-- What the definition says of a case's text.
+pub linesOf : Case → List Line
+unfolding loop said numbered run past begins decimal lineEnd nextLine endOfLine fixed wordEnds word comment newline commentOrNewline lines linebreaks unsigned braced magnitude uintAt bracedUintAt intAt count thirdCount counts afterP opening nextLiteral literalsFrom literals noClause body owed clauseAt nextClause answerAt turn answersFrom text nextValue valuesFrom valueLine solutionLine logLine logFrom log
+linesOf c = linesBy (c .kind) (c .mode) (c .room) (bytes (c .quoted))
+
+-- The definition says of every text in the table what is expected.
+abbrev pub Hold : List Case → Type 0
+Hold cases = map linesOf cases ≡ map (λ c. c .expected) cases
+
+abbrev case : Kind → Mode → String → List Line → Case
+case k m q e = record { kind = k; mode = m; room = 1024; quoted = q; expected = e }
+
+abbrev plain : String → List Line → Case
+plain = case (Formula Plain) Strict
+
+abbrev weighted : String → List Line → Case
+weighted = case (Formula Weighted) Strict
+
+abbrev grouped : String → List Line → Case
+grouped = case (Formula Grouped) Strict
+
+abbrev strictLog : String → List Line → Case
+strictLog = case Log Strict
+
+abbrev lenientLog : String → List Line → Case
+lenientLog = case Log Lenient
+
+abbrev withRoom : ℕ → Case → Case
+withRoom n c = record { kind = c .kind; mode = c .mode; room = n; quoted = c .quoted; expected = c .expected }
+
+-- The cases marked P.
+abbrev pub marked : List Case
+marked =
+    plain "" (NoHeader ∷ End ∷ [])
+    ∷ plain "0" (NoHeader ∷ Clause 0 [] ∷ End ∷ [])
+    ∷ plain "1 0 2 0\n" (NoHeader ∷ Refused 5 4 1 ∷ [])
+    ∷ plain "p cnf 0 0\n7 0\n" (Header 0 0 0 ∷ Clause 0 (pos 7 ∷ []) ∷ End ∷ [])
+    ∷ plain "p cnf 2 1\n3 0\n" (Header 2 1 0 ∷ Refused 15 10 0 ∷ [])
+    ∷ plain "p cnf 2 2\n1 0\n" (Header 2 2 0 ∷ Clause 0 (pos 1 ∷ []) ∷ Refused 9 14 0 ∷ [])
+    ∷ plain "p cnf 2 1\n1 0\n2 0\n" (Header 2 1 0 ∷ Clause 0 (pos 1 ∷ []) ∷ Refused 9 14 0 ∷ [])
+    ∷ plain "1 2" (NoHeader ∷ Refused 6 3 2 ∷ [])
+    ∷ plain "1 \nx" (NoHeader ∷ Refused 7 3 1 ∷ [])
+    ∷ grouped "p gcnf 2 2 1\n{0} 1 0\n{2} 2 0\n" (Header 2 2 1 ∷ Clause 0 (pos 1 ∷ []) ∷ Refused 14 21 0 ∷ [])
+    ∷ weighted "5\n" (NoHeader ∷ Refused 8 2 0 ∷ [])
+    ∷ strictLog "s SATISFIABLE \n" (Refused 5 13 0 ∷ [])
+    ∷ strictLog "v 1 -2\n" (Refused 19 7 2 ∷ [])
+    ∷ strictLog "s UNKNOWN\ns SATISFIABLE\n" (Refused 18 10 0 ∷ [])
+    ∷ lenientLog "s UNKNOWN\ns SATISFIABLE\n" (Says Unknown [] ∷ [])
+    ∷ []
+
+pub marked-hold : Hold marked
+unfolding linesOf
+marked-hold = refl
+
+-- The other texts of document 01.
+abbrev pub unmarked : List Case
+unmarked =
+    plain "1 0\r" (NoHeader ∷ Refused 5 3 1 ∷ [])
+    ∷ plain "2147483647 0" (NoHeader ∷ Clause 0 (pos 2147483647 ∷ []) ∷ End ∷ [])
+    ∷ plain "-2147483648 0" (NoHeader ∷ Refused 15 0 0 ∷ [])
+    ∷ plain "p cnf\n" (Refused 2 5 0 ∷ [])
+    ∷ plain "pcnf 1 1\n" (NoHeader ∷ Refused 9 0 0 ∷ [])
+    ∷ withRoom 2 (plain "1 2 3 0" (NoHeader ∷ Refused 16 4 2 ∷ []))
+    ∷ plain "c pull 7\np cnf 3 2\n1 -3 0\n-2\n0\n" (Header 3 2 0 ∷ Clause 0 (pos 1 ∷ negsuc 2 ∷ []) ∷ Clause 0 (negsuc 1 ∷ []) ∷ End ∷ [])
+    ∷ []
+
+pub unmarked-hold : Hold unmarked
+unfolding linesOf
+unmarked-hold = refl
+
+-- The slips that document 01 expects: clauses split at 0 alone; a clause count of 0 taken for "no clauses"; 15 for digits that overflow and end in a letter.
+abbrev pub slips : List Case
+slips =
+    plain "1 0 2 0" (NoHeader ∷ Refused 5 4 1 ∷ [])
+    ∷ plain "p cnf 2 0\n1 0\n2 0\n" (Header 2 0 0 ∷ Clause 0 (pos 1 ∷ []) ∷ Clause 0 (pos 2 ∷ []) ∷ End ∷ [])
+    ∷ plain "99999999999999999999x" (NoHeader ∷ Refused 9 0 0 ∷ [])
+    ∷ plain "1 99999999999999999999x" (NoHeader ∷ Refused 6 2 1 ∷ [])
+    ∷ plain "99999999999999999999" (NoHeader ∷ Refused 15 0 0 ∷ [])
+    ∷ []
+
+pub slips-hold : Hold slips
+unfolding linesOf
+slips-hold = refl
+
+-- Where the crate's code settles what document 01 leaves open.
+abbrev pub readings : List Case
+readings =
+    strictLog "v  " (Refused 19 3 0 ∷ [])
+    ∷ strictLog "s  UNKNOWN" (Refused 17 2 0 ∷ [])
+    ∷ strictLog "v x" (Refused 5 2 0 ∷ [])
+    ∷ withRoom 1 (strictLog "v 1\nv 2 0" (Refused 16 6 1 ∷ []))
+    ∷ strictLog "v 1 0\nx" (Refused 18 6 1 ∷ [])
+    ∷ grouped "{1} " (NoHeader ∷ Refused 8 4 0 ∷ [])
+    ∷ plain "\r" (NoHeader ∷ Refused 9 0 0 ∷ [])
+    ∷ plain "1\r0" (NoHeader ∷ Refused 6 1 1 ∷ [])
+    ∷ grouped "p gcnf 0 0 1\n{2}3 0" (Header 0 0 1 ∷ Refused 14 13 0 ∷ [])
+    ∷ weighted "5\n1\n" (NoHeader ∷ Refused 7 4 1 ∷ [])
+    ∷ weighted "5x 1 0" (NoHeader ∷ Refused 9 0 0 ∷ [])
+    ∷ grouped "{}1 0" (NoHeader ∷ Refused 9 0 0 ∷ [])
+    ∷ plain "p cnf 1 1" (Header 1 1 0 ∷ Refused 9 9 0 ∷ [])
+    ∷ plain "p cnf 1 1\nc" (Header 1 1 0 ∷ Refused 9 11 0 ∷ [])
+    ∷ strictLog "s SATISFIABLEx" (Refused 5 13 0 ∷ [])
+    ∷ strictLog "c\t" (Refused 18 0 0 ∷ [])
+    ∷ lenientLog "c\t" (Says Unknown [] ∷ [])
+    ∷ plain "999999999999999999999999999999 0" (NoHeader ∷ Refused 15 0 0 ∷ [])
+    ∷ weighted "p wcnf 1 1 1\n1 1 0\n99999999999999999999 1 0" (Header 1 1 1 ∷ Clause 1 (pos 1 ∷ []) ∷ Refused 9 19 0 ∷ [])
+    ∷ strictLog "v " (Refused 19 2 0 ∷ [])
+    ∷ plain "0\r" (NoHeader ∷ Refused 5 1 0 ∷ [])
+    ∷ plain "c\r0" (NoHeader ∷ End ∷ [])
+    ∷ plain "c0" (NoHeader ∷ End ∷ [])
+    ∷ []
+
+pub readings-hold : Hold readings
+unfolding linesOf
+readings-hold = refl
+
+-- The word a reader stopped at: a text, a place and the word there.
+pub record Stop : Type 0 where
+  pub quoted : String
+  pub at : ℕ
+  pub word-there : String
+
+abbrev pub stops : List Stop
+stops =
+    record { quoted = "1 0 2 0\n"; at = 4; word-there = "2" }
+    ∷ record { quoted = "1 \n"; at = 2; word-there = "" }
+    ∷ record { quoted = "1 \r\n"; at = 2; word-there = "" }
+    ∷ record { quoted = "1 2"; at = 3; word-there = "" }
+    ∷ record { quoted = "s  UNKNOWN"; at = 2; word-there = " UNKNOWN" }
+    ∷ record { quoted = "\r"; at = 0; word-there = "\r" }
+    ∷ record { quoted = "1\r0"; at = 1; word-there = "\r0" }
+    ∷ record { quoted = "p gcnf 0 0 1\n{2}3 0"; at = 13; word-there = "{2}3" }
+    ∷ record { quoted = "1 2"; at = 9; word-there = "" }
+    ∷ record { quoted = "x123456789x123456789x123456789x123456789x123456789x123456789x12"; at = 1; word-there = "123456789x123456789x123456789x123456789x123456789x123456789x" }
+    ∷ []
+
+pub stops-hold : map (λ c. stoppedAt (bytes (c .quoted)) (c .at)) stops ≡ map (λ c. bytes (c .word-there)) stops
+unfolding stoppedAt lineEnd run
+stops-hold = refl
+
+-- What a writer is asked, and what it comes to.
+pub record Writes : Type 0 where
+  pub asked : Written
+  pub comes-to : Written
+
+abbrev writes : Written → String → Writes
+writes a q = record { asked = a; comes-to = written (bytes q) }
+
+abbrev writesNothing : Written → ℕ → ℕ → Writes
+writesNothing a n at = record { asked = a; comes-to = unwritten (record { number = n; place = at }) }
+
+abbrev pub writing : List Writes
+writing =
+    writes (writeHeader Plain (headerOf 3 2 0) 10) "p cnf 3 2\n"
+    ∷ writes (writeHeader Weighted (headerOf 0 18446744073709551615 7) 32) "p wcnf 0 18446744073709551615 7\n"
+    ∷ writes (writeHeader Grouped (headerOf 2147483647 0 1) 100) "p gcnf 2147483647 0 1\n"
+    ∷ writesNothing (writeHeader Plain (headerOf 2147483648 0 0) 0) 10 0
+    ∷ writesNothing (writeHeader Plain (headerOf 3 2 0) 9) 28 0
+    ∷ writes (writeClause Plain 0 (pos 1 ∷ negsuc 2 ∷ []) 7) "1 -3 0\n"
+    ∷ writes (writeClause Plain 0 [] 2) "0\n"
+    ∷ writes (writeClause Weighted 5 [] 4) "5 0\n"
+    ∷ writes (writeClause Grouped 0 (negsuc 2147483646 ∷ pos 10 ∷ []) 21) "{0} -2147483647 10 0\n"
+    ∷ writesNothing (writeClause Plain 0 (pos 1 ∷ pos 0 ∷ []) 0) 27 1
+    ∷ writesNothing (writeClause Plain 0 (negsuc 2147483647 ∷ pos 0 ∷ []) 0) 27 0
+    ∷ writesNothing (writeClause Plain 0 (pos 1 ∷ []) 3) 28 0
+    ∷ []
+
+pub writing-holds : map (λ w. w .asked) writing ≡ map (λ w. w .comes-to) writing
+unfolding loop run nextDigit digits flatMap headerLine clauseLine writeHeader writeClause
+writing-holds = refl

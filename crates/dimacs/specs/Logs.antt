@@ -1,0 +1,151 @@
+-- Solver logs: a verdict and an assignment.
+use Prim.Native.Nat.{ℕ, suc, _+_}
+use mathlib.Core.Bool.{Bool, true, false, cond, _||_}
+use mathlib.Core.List.{List, [], _∷_, _++_}
+use lib.ListN.{length}
+use lib.Dec.{leb}
+use lib.IntN.{ℤ}
+use Rattle.dimacs.specs.Loop.{Step, again, answer, loop}
+use Rattle.dimacs.specs.Bytes.{bytes}
+use Rattle.dimacs.specs.Names.{Reason, refusal, ceiling}
+use Rattle.dimacs.specs.Tokens.{unmoved, atEnd, blanks, nextLine, fixed, intAt, endOfLine, lineEnds}
+use Rattle.dimacs.specs.declared.Mode.{Mode}
+use Rattle.dimacs.specs.declared.Mode.the-variants.{Strict, Lenient}
+use Rattle.dimacs.specs.declared.Refusal.{Refusal}
+use Rattle.dimacs.specs.declared.Verdict.{Verdict}
+use Rattle.dimacs.specs.declared.Verdict.the-variants.{Yes, No, Unknown}
+use Rattle.dimacs.specs.declared.Int.{Int}
+use Rattle.dimacs.specs.declared.Int.the-variants as int
+
+-- What a log comes to: its verdict and all its literals, or a refusal, with all literals before it.
+pub data LogAnswer : Type 0 where
+  accepted : Verdict → List ℤ → LogAnswer
+  refusedLog : Refusal → List ℤ → LogAnswer
+
+-- The assignment has no line yet, or waits for its 0, or is closed by it.
+pub data Assignment : Type 0 where
+  unbegun begun closed : Assignment
+
+-- The solution line has not come, or said a verdict.
+pub data Solution : Type 0 where
+  unsaid : Solution
+  said : Verdict → Solution
+
+-- Reading a log: the place, the solution, the assignment and its literals so far.
+pub record Log : Type 0 where
+  pub at : ℕ
+  pub solution : Solution
+  pub assignment : Assignment
+  pub so : List ℤ
+
+-- A state of reading by its four parts.
+abbrev pub logAt : ℕ → Solution → Assignment → List ℤ → Log
+logAt at solution assignment so = record { at = at; solution = solution; assignment = assignment; so = so }
+
+-- The 0 has closed the assignment.
+abbrev pub isClosed : Assignment → Bool
+isClosed unbegun = false
+isClosed begun = false
+isClosed closed = true
+
+-- The solution line has come.
+abbrev pub isSaid : Solution → Bool
+isSaid unsaid = false
+isSaid (said v) = true
+
+-- No solution line gives unknown.
+abbrev pub verdictOf : Solution → Verdict
+verdictOf unsaid = Unknown
+verdictOf (said v) = v
+
+-- The literals of a value line: where they end, whether by the 0, and all literals so far; or a refusal.
+pub data Values : Type 0 where
+  values : ℕ → Assignment → List ℤ → Values
+  stopped : Refusal → List ℤ → Values
+
+-- Reading values: the place and the literals so far.
+pub record Row : Type 0 where
+  pub at : ℕ
+  pub so : List ℤ
+
+module _ (s : List ℕ) (room : ℕ) where
+  -- By the number at the place: the 0 closes, a literal beyond the ceiling or without room is refused, another is read, and without one the line ends.
+  abbrev pub onValue : Int → ℕ → List ℤ → Step Row Values
+  onValue int.Missing at so = answer (values at begun so)
+  onValue (int.Zero next) at so = answer (values next closed so)
+  onValue int.TooBig at so = answer (stopped (refusal s Reason.literalTooBig at) so)
+  onValue (int.Literal v next) at so =
+      cond (leb room (length so)) (answer (stopped (refusal s Reason.bufferFull at) so)) (again (record { at = next; so = so ++ (v ∷ []) }))
+
+  -- One number.
+  unfoldable pub nextValue : Row → Step Row Values
+  nextValue r = onValue (intAt s ceiling (r .at)) (r .at) (r .so)
+
+  -- The literals of a line from a place on.
+  unfoldable pub valuesFrom : Row → Values
+  valuesFrom = loop nextValue (values 0 begun []) (suc (length s))
+
+module _ (s : List ℕ) where
+  -- A value line or solution line is read: a line end or the end of the text must follow.
+  abbrev pub lineRead : ℕ → Solution → Assignment → List ℤ → Step Log LogAnswer
+  lineRead at solution assignment so =
+      lineEnds (endOfLine s at) (λ next. again (logAt next solution assignment so)) (answer (refusedLog (refusal s Reason.lineEndExpected at) so))
+
+  -- What follows the literals of a line.
+  abbrev pub valuesRead : Solution → Values → Step Log LogAnswer
+  valuesRead solution (values at assignment so) = lineRead at solution assignment so
+  valuesRead solution (stopped r so) = answer (refusedLog r so)
+
+  -- A verdict by its word, or what follows where that does not stand.
+  abbrev pub solutionIs : Verdict → List ℕ → ℕ → Log → Step Log LogAnswer → Step Log LogAnswer
+  solutionIs v w at r otherwise =
+      let e = fixed s w at in cond (unmoved at e) otherwise (lineRead e (said v) (r .assignment) (r .so))
+
+  -- After `s `, one of three words and at once a line end or the end of the text.
+  unfoldable pub solutionLine : ℕ → Log → Step Log LogAnswer
+  solutionLine at r =
+      solutionIs Yes (bytes "SATISFIABLE") at r
+      (solutionIs No (bytes "UNSATISFIABLE") at r
+      (solutionIs Unknown (bytes "UNKNOWN") at r
+      (answer (refusedLog (refusal s Reason.solutionExpected at) (r .so)))))
+
+  -- The end of the text may not come while the assignment is open.
+  abbrev pub logEnd : ℕ → Solution → List ℤ → Assignment → LogAnswer
+  logEnd at solution so unbegun = accepted (verdictOf solution) so
+  logEnd at solution so begun = refusedLog (refusal s Reason.assignmentOpen at) so
+  logEnd at solution so closed = accepted (verdictOf solution) so
+
+  -- A line of no permitted kind is refused, or skipped in the lenient mode.
+  abbrev pub otherLine : Mode → Log → Step Log LogAnswer
+  otherLine Strict r = answer (refusedLog (refusal s Reason.logLineExpected (r .at)) (r .so))
+  otherLine Lenient r = again (logAt (nextLine s (r .at)) (r .solution) (r .assignment) (r .so))
+
+module _ (s : List ℕ) (room : ℕ) where
+  -- After `v `, blanks, and literals up to the line's end or the closing 0.
+  unfoldable pub valueLine : ℕ → Log → Step Log LogAnswer
+  valueLine at r = valuesRead s (r .solution) (valuesFrom s room (record { at = blanks s at; so = r .so }))
+
+module _ (s : List ℕ) (mode : Mode) (room : ℕ) where
+  -- A line that begins `c ` is skipped. Else in this order: `v ` while no 0 has closed the assignment; `s ` if no solution line came; the end of
+  -- the text; any line in the lenient mode.
+  unfoldable pub logLine : Log → Step Log LogAnswer
+  logLine r =
+      let at = r .at in
+      let c = fixed s (bytes "c ") at in
+      let v = fixed s (bytes "v ") at in
+      let e = fixed s (bytes "s ") at in
+      cond (unmoved at c)
+      (cond (isClosed (r .assignment) || unmoved at v)
+      (cond (isSaid (r .solution) || unmoved at e)
+      (cond (atEnd s at) (answer (logEnd s at (r .solution) (r .so) (r .assignment))) (otherLine s mode r))
+      (solutionLine s e r))
+      (valueLine s room v r))
+      (again (logAt (nextLine s c) (r .solution) (r .assignment) (r .so)))
+
+  -- The log from a state on.
+  unfoldable pub logFrom : Log → LogAnswer
+  logFrom = loop logLine (accepted Unknown []) (suc (length s))
+
+  -- The log s, read in a mode with room for so many literals in all.
+  unfoldable pub log : LogAnswer
+  log = logFrom (logAt 0 unsaid unbegun [])

@@ -1,0 +1,82 @@
+-- The numbers by which formats, modes and refusals go outside, and the bounds.
+use Prim.Native.Nat.{ℕ, _-_, _^_}
+use mathlib.Core.List.{List}
+use mathlib.Core.Option.{Option, some, none}
+use mathlib.Core.Bool.{cond}
+use lib.Dec.{eqb}
+use Rattle.dimacs.specs.declared.Format.{Format}
+use Rattle.dimacs.specs.declared.Format.the-variants.{Plain, Weighted, Grouped}
+use Rattle.dimacs.specs.declared.Mode.{Mode}
+use Rattle.dimacs.specs.declared.Mode.the-variants.{Strict, Lenient}
+use Rattle.dimacs.specs.declared.Refusal.{Refusal}
+
+-- The largest variable, and the largest literal either way.
+abbrev pub ceiling : ℕ
+ceiling = 2147483647
+
+-- The largest count, weight or group.
+abbrev pub largest : ℕ
+largest = 2 ^ 64 - 1
+
+-- The longest word that a refusal shows.
+abbrev pub longestWord : ℕ
+longestWord = 60
+
+-- The format of clauses that a number names. (3 names a log.)
+abbrev pub formatOf : ℕ → Option Format
+formatOf n = cond (eqb n 0) (some Plain) (cond (eqb n 1) (some Weighted) (cond (eqb n 2) (some Grouped) none))
+
+-- The mode that a number names.
+abbrev pub modeOf : ℕ → Option Mode
+modeOf n = cond (eqb n 0) (some Strict) (cond (eqb n 1) (some Lenient) none)
+
+-- Why something is refused.
+pub data Reason : Type 0 where
+  formatWordExpected variableCountExpected clauseCountExpected thirdCountExpected lineEndExpected : Reason
+  literalExpected literalExpectedAfterLines literalsExpected clauseExpected variableCountTooBig : Reason
+  clauseCountTooBig thirdCountTooBig weightTooBig groupTooBig literalTooBig bufferFull solutionExpected : Reason
+  logLineExpected assignmentOpen trayFull partOutsideArea bufferTooShort nothingWaits ticketNotWaiting : Reason
+  ticketsUsedUp formatOrModeUnknown literalNotWritable outputTooShort : Reason
+
+-- The refusal numbers.
+abbrev pub numberOf : Reason → ℕ
+numberOf formatWordExpected = 1  -- after `p`, not the format's word
+numberOf variableCountExpected = 2  -- variable count expected
+numberOf clauseCountExpected = 3  -- clause count expected
+numberOf thirdCountExpected = 4  -- third count expected
+numberOf lineEndExpected = 5  -- line end expected
+numberOf literalExpected = 6  -- literal or 0 expected on a literal's line
+numberOf literalExpectedAfterLines = 7  -- the same after line ends
+numberOf literalsExpected = 8  -- literals expected after weight or group
+numberOf clauseExpected = 9  -- no clause, comment, line end or permitted end
+numberOf variableCountTooBig = 10  -- variable count above the ceiling
+numberOf clauseCountTooBig = 11  -- clause count above 64 bits
+numberOf thirdCountTooBig = 12  -- third count above 64 bits
+numberOf weightTooBig = 13  -- weight above 64 bits
+numberOf groupTooBig = 14  -- group above its limit
+numberOf literalTooBig = 15  -- literal beyond its limit either way
+numberOf bufferFull = 16  -- non-zero literal in range, buffer full
+numberOf solutionExpected = 17  -- solution word expected
+numberOf logLineExpected = 18  -- log line of no permitted kind
+numberOf assignmentOpen = 19  -- log ends with an open assignment
+numberOf trayFull = 20  -- tray: all its places are taken
+numberOf partOutsideArea = 21  -- tray: start plus length above the lent area's length
+numberOf bufferTooShort = 22  -- tray: literal buffer shorter than its room
+numberOf nothingWaits = 23  -- tray: nothing waits
+numberOf ticketNotWaiting = 24  -- tray: ticket not waiting
+numberOf ticketsUsedUp = 25  -- tray: 2^64 - 1 tickets given
+numberOf formatOrModeUnknown = 26  -- unknown format or mode number, or a format the call does not take
+numberOf literalNotWritable = 27  -- writer: literal is 0 or -2,147,483,648
+numberOf outputTooShort = 28  -- writer: output too short
+
+-- A refusal of the text s by its number, at a place in it.
+unfoldable pub numbered : List ℕ → ℕ → ℕ → Refusal
+numbered s number at = record { number = number; place = at }
+
+-- A refusal of the text s for a reason, at a place in it.
+abbrev pub refusal : List ℕ → Reason → ℕ → Refusal
+refusal s why at = numbered s (numberOf why) at
+
+-- A refusal where no text is at fault.
+abbrev pub callRefusal : Reason → ℕ → Refusal
+callRefusal why at = record { number = numberOf why; place = at }

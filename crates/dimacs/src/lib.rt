@@ -1,0 +1,135 @@
+// The words that every layer shares: bounds, formats and modes, reasons for a refusal, and the small answers of tokens.
+// The written definition in specs/ is over these same types, so that a contract equates an answer with a definition.
+ghost use mathlib.Core.Path.{_≡_};
+ghost use Rattle.dimacs.specs.Names.{numbered};
+
+// The largest variable, and the largest literal either way.
+pub const CEILING: u32 = 2147483647;
+
+// The largest count, weight or group.
+pub const LARGEST: u64 = 18446744073709551615;
+
+// A text of clauses is plain, or each clause has a weight, or each has a group.
+pub enum Format {
+    Plain,
+    Weighted,
+    Grouped,
+}
+
+// The lenient mode applies no count of a header, and passes over log lines of no permitted kind.
+pub enum Mode {
+    Strict,
+    Lenient,
+}
+
+// Refusals by number. Their meanings stand beside the same names in specs/Names.
+pub const FORMAT_WORD_EXPECTED: u8 = 1;
+
+pub const VARIABLE_COUNT_EXPECTED: u8 = 2;
+
+pub const CLAUSE_COUNT_EXPECTED: u8 = 3;
+
+pub const THIRD_COUNT_EXPECTED: u8 = 4;
+
+pub const LINE_END_EXPECTED: u8 = 5;
+
+pub const LITERAL_EXPECTED: u8 = 6;
+
+pub const LITERAL_EXPECTED_AFTER_LINES: u8 = 7;
+
+pub const LITERALS_EXPECTED: u8 = 8;
+
+pub const CLAUSE_EXPECTED: u8 = 9;
+
+pub const VARIABLE_COUNT_TOO_BIG: u8 = 10;
+
+pub const CLAUSE_COUNT_TOO_BIG: u8 = 11;
+
+pub const THIRD_COUNT_TOO_BIG: u8 = 12;
+
+pub const WEIGHT_TOO_BIG: u8 = 13;
+
+pub const GROUP_TOO_BIG: u8 = 14;
+
+pub const LITERAL_TOO_BIG: u8 = 15;
+
+pub const BUFFER_FULL: u8 = 16;
+
+pub const SOLUTION_EXPECTED: u8 = 17;
+
+pub const LOG_LINE_EXPECTED: u8 = 18;
+
+pub const ASSIGNMENT_OPEN: u8 = 19;
+
+pub const TRAY_FULL: u8 = 20;
+
+pub const PART_OUTSIDE_AREA: u8 = 21;
+
+pub const BUFFER_TOO_SHORT: u8 = 22;
+
+pub const NOTHING_WAITS: u8 = 23;
+
+pub const TICKET_NOT_WAITING: u8 = 24;
+
+pub const TICKETS_USED_UP: u8 = 25;
+
+pub const FORMAT_OR_MODE_UNKNOWN: u8 = 26;
+
+pub const LITERAL_NOT_WRITABLE: u8 = 27;
+
+pub const OUTPUT_TOO_SHORT: u8 = 28;
+
+// A refusal: its number, and the place at fault.
+pub struct Refusal {
+    pub number: u8,
+    pub place: usize,
+}
+
+// The refusal of a text at a place in it. Every refusal of a text is made here.
+pub fn refuse(text: &[u8], number: u8, place: usize) -> Refusal
+    ensures { λ r. ⌜ r ≡ numbered (now (text .entry)) number place ⌝ }
+{
+    Refusal { number, place }
+}
+
+// An unsigned number at a place: none, its value and the place past it, or one above its limit.
+pub enum Uint {
+    Missing,
+    Value(u64, usize),
+    TooBig,
+}
+
+// A signed number at a place: none, the 0 and the place past it, a literal and the place past it, or one beyond its limit.
+pub enum Int {
+    Missing,
+    Zero(usize),
+    Literal(i32, usize),
+    TooBig,
+}
+
+// What may close a line, a line end or the end of the text: neither, or the place past it.
+pub enum EndOfLine {
+    Missing,
+    Past(usize),
+}
+
+// What a header says: the counts of variables and clauses, and the top weight or the count of groups, or 0 where the format has no third.
+pub struct Header {
+    pub variables: u64,
+    pub clauses: u64,
+    pub third: u64,
+}
+
+// The answer that later calls repeat, once there is one.
+pub enum Final {
+    Open,
+    Ended,
+    Refused(Refusal),
+}
+
+// What a solver says of its formula: satisfiable, unsatisfiable, or that it does not know.
+pub enum Verdict {
+    Yes,
+    No,
+    Unknown,
+}
