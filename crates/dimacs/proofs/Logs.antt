@@ -11,7 +11,7 @@ use lib.IntN.{ℤ}
 use Rattle.dimacs.specs.Loop.{Step, again, answer}
 use Rattle.dimacs.specs.Bytes.{bytes}
 use Rattle.dimacs.specs.Names.{Reason, numbered, refusal, ceiling}
-use Rattle.dimacs.specs.Tokens.{unmoved, atEnd, blanks, nextLine, fixed, intAt, endOfLine, lineEnds}
+use Rattle.dimacs.specs.Tokens.{unmoved, atEnd, blanks, nextLine, fixed, strictComment, intAt, endOfLine, lineEnds}
 use Rattle.dimacs.specs.Logs.{LogAnswer, accepted, refusedLog, Assignment, unbegun, begun, closed, Solution, unsaid, Log, logAt, isClosed, isSaid, Values, values, stopped, Row, onValue, nextValue, valuesFrom, lineRead, valuesRead, valueLine, solutionIs, solutionLine, logEnd, otherLine, logLine, logFrom, log}
 use Rattle.dimacs.specs.declared.Mode.{Mode}
 use Rattle.dimacs.specs.declared.Mode.the-variants.{Strict, Lenient}
@@ -23,7 +23,7 @@ use Rattle.dimacs.specs.declared.EndOfLine.{EndOfLine}
 use Rattle.dimacs.specs.declared.EndOfLine.the-variants as end
 use Rattle.dimacs.proofs.Loops.{Leads, Falls, after, unrolled, kept}
 use Rattle.dimacs.proofs.Tests.{chosen, neither-right}
-use Rattle.dimacs.proofs.Spans.{Spans, then-spans, Moves, moves, then-moves, moves-then, EndCloses, end-closes, blanks-spans, next-line-spans, next-line-moves, fixed-spans, IntMoves, int-moves}
+use Rattle.dimacs.proofs.Spans.{Spans, then-spans, Moves, moves, then-moves, moves-then, EndCloses, end-closes, blanks-spans, strict-comment-spans, next-line-moves, fixed-spans, IntMoves, int-moves}
 
 -- The literals of a line end, or are refused, within reach.
 abbrev pub ValuesSpan : List ℕ → ℕ → Values → Type 0
@@ -130,7 +130,7 @@ module _ (s : List ℕ) (mode : Mode) (room : ℕ) where
   unfolding logLine
   log-line-leads l =
       let at = l .at in
-      let c = fixed s (bytes "c ") at in
+      let c = strictComment s at in
       let v = fixed s (bytes "v ") at in
       let e = fixed s (bytes "s ") at in
       chosen (LineLeads s at) (unmoved at c)
@@ -141,7 +141,7 @@ module _ (s : List ℕ) (mode : Mode) (room : ℕ) where
       (λ k. other-line-leads s room mode l (leb-false (length s) at k)))
       (λ k. solution-line-leads s room at e l (moves (fixed-spans s at (bytes "s ")) (neither-right (isSaid (l .solution)) (unmoved at e) k))))
       (λ k. value-line-leads s room at v l (moves (fixed-spans s at (bytes "v ")) (neither-right (isClosed (l .assignment)) (unmoved at v) k))))
-      (λ k. then-moves (moves (fixed-spans s at (bytes "c ")) k) (next-line-spans s c))
+      (λ k. moves (strict-comment-spans s at) k)
 
   rest-of : Log → ℕ
   rest-of l = length s - l .at

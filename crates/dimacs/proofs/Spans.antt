@@ -11,9 +11,9 @@ use lib.Dec.{ltb, leb, eqb}
 use lib.ListN.{length, getD, drop, length-drop, List·getD-eq-default}
 use lib.IntN.{ℤ}
 use Rattle.dimacs.specs.Loop.{Step, again, answer}
-use Rattle.dimacs.specs.Bytes.{LF, CR, isBlank, isDigit, isNotLF}
+use Rattle.dimacs.specs.Bytes.{bytes, LF, CR, isBlank, isDigit, isNotLF}
 use Rattle.dimacs.specs.Names.{ceiling}
-use Rattle.dimacs.specs.Tokens.{run, past, begins, decimal, unmoved, Number, none, found, byteAt, blanks, lineEnd, nextLine, endOfLine, fixed, wordEnds, word, comment, newline, commentOrNewline, lines, linebreaks, unsigned, braced, minus, magnitude, upTo, upToEitherWay, uintAt, bracedUintAt, intAt}
+use Rattle.dimacs.specs.Tokens.{run, past, begins, decimal, unmoved, Number, none, found, byteAt, blanks, lineEnd, nextLine, endOfLine, fixed, wordEnds, word, comment, strictComment, newline, commentOrNewline, lines, linebreaks, unsigned, braced, minus, upTo, upToEitherWay, uintAt, bracedUintAt, intAt}
 use Rattle.dimacs.specs.declared.Uint.{Uint}
 use Rattle.dimacs.specs.declared.Uint.the-variants as uint
 use Rattle.dimacs.specs.declared.Int.{Int}
@@ -64,6 +64,10 @@ module _ (s : List ℕ) (at : ℕ) where
       (λ e. let l = standing s (at + 1) 9 (both-right (eqb (byteAt s at) CR) (eqb (byteAt s (at + 1)) LF) e) in omega arith)
       (λ _. omega arith))
 
+  pub minus-spans : Spans s at (minus s at)
+  unfolding minus
+  minus-spans = chosen (Spans s at) (eqb (byteAt s at) (code "-")) (λ e. let l = standing s at 44 e in omega arith) (λ _. omega arith)
+
   pub next-line-spans : Spans s at (nextLine s at)
   unfolding nextLine
   next-line-spans =
@@ -100,6 +104,12 @@ module _ (s : List ℕ) where
       let h : Spans s at (at + 1) = omega arith in
       then-spans h (then-spans (next-line-spans s (at + 1)) (blanks-spans (nextLine s (at + 1)))))
       (λ _. omega arith)
+
+  pub strict-comment-spans : (at : ℕ) → Spans s at (strictComment s at)
+  unfolding strictComment
+  strict-comment-spans at =
+      let e = fixed s (bytes "c ") at in
+      chosen (Spans s at) (unmoved at e) (λ _. omega arith) (λ _. then-spans (fixed-spans s at (bytes "c ")) (next-line-spans s e))
 
   pub newline-spans : (at : ℕ) → Spans s at (newline s at)
   unfolding newline
@@ -211,14 +221,6 @@ module _ (s : List ℕ) where
       (λ _. tt)))
       (λ _. tt)
 
-  pub magnitude-moves : (at : ℕ) → NumberMoves s at (magnitude s at)
-  unfolding magnitude
-  magnitude-moves at = chosen (NumberMoves s at) (minus s at) (λ _. back (unsigned s (at + 1)) (unsigned-moves (at + 1))) (λ _. unsigned-moves at)
-    where
-      back : (n : Number) → NumberMoves s (at + 1) n → NumberMoves s at n
-      back none h = tt
-      back (found n e) h = omega arith
-
   up-to-moves : (limit at : ℕ) (n : Number) → NumberMoves s at n → UintMoves s at (upTo limit n)
   up-to-moves limit at none h = tt
   up-to-moves limit at (found n e) h = chosen (UintMoves s at) (leb n limit) (λ _. h) (λ _. tt)
@@ -233,8 +235,14 @@ module _ (s : List ℕ) where
 
   pub int-moves : (limit at : ℕ) → IntMoves s at (intAt s limit at)
   unfolding intAt
-  int-moves limit at = go (magnitude s at) (magnitude-moves at)
+  int-moves limit at =
+      let e = minus s at in
+      go (unsigned s e) (back (unsigned s e) (unsigned-moves e))
     where
-      go : (n : Number) → NumberMoves s at n → IntMoves s at (upToEitherWay limit (minus s at) n)
+      back : (n : Number) → NumberMoves s (minus s at) n → NumberMoves s at n
+      back none h = tt
+      back (found n e) h = moves-then (minus-spans s at) h
+
+      go : (n : Number) → NumberMoves s at n → IntMoves s at (upToEitherWay limit (unmoved at (minus s at)) n)
       go none h = tt
       go (found n e) h = chosen (IntMoves s at) (eqb n 0) (λ _. h) (λ _. chosen (IntMoves s at) (leb n (min limit ceiling)) (λ _. h) (λ _. tt))

@@ -8,7 +8,7 @@ use lib.IntN.{ℤ, pos, negsuc}
 use Rattle.dimacs.specs.Loop.{loop, said}
 use Rattle.dimacs.specs.Bytes.{bytes}
 use Rattle.dimacs.specs.Names.{numbered}
-use Rattle.dimacs.specs.Tokens.{run, past, begins, decimal, lineEnd, nextLine, endOfLine, fixed, wordEnds, word, comment, newline, commentOrNewline, lines, linebreaks, unsigned, braced, magnitude, uintAt, bracedUintAt, intAt, stoppedAt}
+use Rattle.dimacs.specs.Tokens.{run, past, begins, decimal, lineEnd, nextLine, endOfLine, fixed, wordEnds, word, comment, strictComment, newline, commentOrNewline, lines, linebreaks, unsigned, braced, minus, uintAt, bracedUintAt, intAt, stoppedAt}
 use Rattle.dimacs.specs.Header.{headerOf, Opening, header, noHeader, badHeader, count, thirdCount, counts, afterP, opening}
 use Rattle.dimacs.specs.Clauses.{nextLiteral, literalsFrom, literals, Answer, clause, ended, refused, noClause, body, owed, clauseAt}
 use Rattle.dimacs.specs.Texts.{nextClause, answerAt, turn, answersFrom, Text, text}
@@ -69,7 +69,7 @@ linesBy Log m room s = logLines (log s m room)
 
 -- What the definition says of a case's text.
 pub linesOf : Case → List Line
-unfolding loop said numbered run past begins decimal lineEnd nextLine endOfLine fixed wordEnds word comment newline commentOrNewline lines linebreaks unsigned braced magnitude uintAt bracedUintAt intAt count thirdCount counts afterP opening nextLiteral literalsFrom literals noClause body owed clauseAt nextClause answerAt turn answersFrom text nextValue valuesFrom valueLine solutionLine logLine logFrom log
+unfolding loop said numbered run past begins decimal lineEnd nextLine endOfLine fixed wordEnds word comment strictComment newline commentOrNewline lines linebreaks unsigned braced minus uintAt bracedUintAt intAt count thirdCount counts afterP opening nextLiteral literalsFrom literals noClause body owed clauseAt nextClause answerAt turn answersFrom text nextValue valuesFrom valueLine solutionLine logLine logFrom log
 linesOf c = linesBy (c .kind) (c .mode) (c .room) (bytes (c .quoted))
 
 -- The definition says of every text in the table what is expected.
@@ -177,6 +177,8 @@ readings =
     ∷ plain "0\r" (NoHeader ∷ Refused 5 1 0 ∷ [])
     ∷ plain "c\r0" (NoHeader ∷ End ∷ [])
     ∷ plain "c0" (NoHeader ∷ End ∷ [])
+    ∷ plain "1\nc\n0" (NoHeader ∷ Clause 0 (pos 1 ∷ []) ∷ End ∷ [])
+    ∷ strictLog "c\n" (Refused 18 0 0 ∷ [])
     ∷ []
 
 pub readings-hold : Hold readings

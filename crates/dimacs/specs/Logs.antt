@@ -8,7 +8,7 @@ use lib.IntN.{ℤ}
 use Rattle.dimacs.specs.Loop.{Step, again, answer, loop}
 use Rattle.dimacs.specs.Bytes.{bytes}
 use Rattle.dimacs.specs.Names.{Reason, refusal, ceiling}
-use Rattle.dimacs.specs.Tokens.{unmoved, atEnd, blanks, nextLine, fixed, intAt, endOfLine, lineEnds}
+use Rattle.dimacs.specs.Tokens.{unmoved, atEnd, blanks, nextLine, fixed, strictComment, intAt, endOfLine, lineEnds}
 use Rattle.dimacs.specs.declared.Mode.{Mode}
 use Rattle.dimacs.specs.declared.Mode.the-variants.{Strict, Lenient}
 use Rattle.dimacs.specs.declared.Refusal.{Refusal}
@@ -126,12 +126,12 @@ module _ (s : List ℕ) (room : ℕ) where
   valueLine at r = valuesRead s (r .solution) (valuesFrom s room (record { at = blanks s at; so = r .so }))
 
 module _ (s : List ℕ) (mode : Mode) (room : ℕ) where
-  -- A line that begins `c ` is skipped. Else in this order: `v ` while no 0 has closed the assignment; `s ` if no solution line came; the end of
+  -- A comment is skipped. Else in this order: `v ` while no 0 has closed the assignment; `s ` if no solution line came; the end of
   -- the text; any line in the lenient mode.
   unfoldable pub logLine : Log → Step Log LogAnswer
   logLine r =
       let at = r .at in
-      let c = fixed s (bytes "c ") at in
+      let c = strictComment s at in
       let v = fixed s (bytes "v ") at in
       let e = fixed s (bytes "s ") at in
       cond (unmoved at c)
@@ -140,7 +140,7 @@ module _ (s : List ℕ) (mode : Mode) (room : ℕ) where
       (cond (atEnd s at) (answer (logEnd s at (r .solution) (r .so) (r .assignment))) (otherLine s mode r))
       (solutionLine s e r))
       (valueLine s room v r))
-      (again (logAt (nextLine s c) (r .solution) (r .assignment) (r .so)))
+      (again (logAt c (r .solution) (r .assignment) (r .so)))
 
   -- The log from a state on.
   unfoldable pub logFrom : Log → LogAnswer

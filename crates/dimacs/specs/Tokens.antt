@@ -65,13 +65,13 @@ upTo limit (found n next) = cond (leb n limit) (uint.Value n next) uint.TooBig
 
 -- A number by its sign and size.
 abbrev pub withSign : Bool → ℕ → ℤ
-withSign negative n = cond negative (negℤ (pos n)) (pos n)
+withSign positive n = cond positive (pos n) (negℤ (pos n))
 
 -- A signed number with its limit either way, which is never above the ceiling. `-0` is zero.
 abbrev pub upToEitherWay : ℕ → Bool → Number → Int
-upToEitherWay limit negative none = int.Missing
-upToEitherWay limit negative (found n next) =
-    cond (eqb n 0) (int.Zero next) (cond (leb n (min limit ceiling)) (int.Literal (withSign negative n) next) int.TooBig)
+upToEitherWay limit positive none = int.Missing
+upToEitherWay limit positive (found n next) =
+    cond (eqb n 0) (int.Zero next) (cond (leb n (min limit ceiling)) (int.Literal (withSign positive n) next) int.TooBig)
 
 module _ (s : List ℕ) where
   -- The byte at a place. Past the end it is 0, with which no token begins.
@@ -114,6 +114,10 @@ module _ (s : List ℕ) where
   unfoldable pub comment : ℕ → ℕ
   comment at = cond (eqb (byteAt at) (code "c")) (blanks (nextLine (at + 1))) at
 
+  -- A log's comment is `c`, a space and all up to the next line.
+  unfoldable pub strictComment : ℕ → ℕ
+  strictComment at = let e = fixed (bytes "c ") at in cond (unmoved at e) at (nextLine e)
+
   -- A line end that closes no header or clause goes with the blanks after it.
   unfoldable pub newline : ℕ → ℕ
   newline at = let e = lineEnd at in cond (unmoved at e) at (blanks e)
@@ -146,13 +150,9 @@ module _ (s : List ℕ) where
       (cond (eqb (byteAt e) (code "}")) (found (decimal 0 (drop (at + 1) s)) (blanks (e + 1))) none))
       none
 
-  -- A minus stands.
-  abbrev pub minus : ℕ → Bool
-  minus at = eqb (byteAt at) (code "-")
-
-  -- The size of a signed number, which has at most one minus before its digits.
-  unfoldable pub magnitude : ℕ → Number
-  magnitude at = cond (minus at) (unsigned (at + 1)) (unsigned at)
+  -- Past one minus.
+  unfoldable pub minus : ℕ → ℕ
+  minus at = cond (eqb (byteAt at) (code "-")) (at + 1) at
 
   -- A count or weight with its limit.
   unfoldable pub uintAt : ℕ → ℕ → Uint
@@ -162,9 +162,9 @@ module _ (s : List ℕ) where
   unfoldable pub bracedUintAt : ℕ → ℕ → Uint
   bracedUintAt limit at = upTo limit (braced at)
 
-  -- A literal, or the 0 that closes them, with its limit either way.
+  -- A literal, or the 0 that closes them, with at most one minus and its limit either way.
   unfoldable pub intAt : ℕ → ℕ → Int
-  intAt limit at = upToEitherWay limit (minus at) (magnitude at)
+  intAt limit at = let e = minus at in upToEitherWay limit (unmoved at e) (unsigned e)
 
   -- The word a reader stopped at: none at a line end or the end of the text, else the first byte and all up to the next stop, up to the longest word.
   unfoldable pub stoppedAt : ℕ → List ℕ

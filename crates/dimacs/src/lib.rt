@@ -1,6 +1,7 @@
 // The words that every layer shares: bounds, formats and modes, reasons for a refusal, and the small answers of tokens.
 // The written definition in specs/ is over these same types, so that a contract equates an answer with a definition.
 ghost use mathlib.Core.Path.{_≡_};
+ghost use lib.IntN.{natAbs};
 ghost use Rattle.dimacs.specs.Names.{numbered};
 
 // The largest variable, and the largest literal either way.
@@ -90,6 +91,17 @@ pub fn refuse(text: &[u8], number: u8, place: usize) -> Refusal
     ensures { λ r. ⌜ r ≡ numbered (now (text .entry)) number place ⌝ }
 {
     Refusal { number, place }
+}
+
+// The size of a literal.
+pub fn magnitude(literal: i32) -> u64
+    ensures { λ r. ⌜ r ≡ natAbs literal ⌝ }
+{
+    let wide = literal as i64;
+    if wide < 0 {
+        return (0 - wide) as u64;
+    }
+    wide as u64
 }
 
 // An unsigned number at a place: none, its value and the place past it, or one above its limit.

@@ -1,0 +1,3 @@
+-- Laws about the parts of numbers, which several proofs cite.
+pub mod Runs
+pub mod Negated

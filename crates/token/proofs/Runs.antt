@@ -1,0 +1,45 @@
+-- The digits at a place, from what a loop has read of them; and what they tell. Assumes nothing.
+use Prim.Native.Nat.{ℕ, suc, _+_, _≤_, _<_}
+use mathlib.Core.Bool.{Bool, true, false, cond}
+use mathlib.Core.List.{List}
+use mathlib.Core.Path.{_≡_, refl, ap, sym, _∙_, subst}
+use native.Mathlib.Omega.{arith}
+use borrow.Author.Tests.{le-leb, lt-leb, leb-true, leb-false}
+use lib.Dec.{leb}
+use lib.ListN.{drop}
+use Rattle.dimacs.specs.Bytes.{isDigit}
+use Rattle.dimacs.specs.Names.{largest}
+use Rattle.dimacs.specs.Tokens.{past, decimal}
+use Rattle.dimacs.proofs.Tests.{chosen}
+use Rattle.dimacs.proofs.Numbers.{All, Above, digits-stand}
+use Rattle.token.specs.Parts.{digitsOf}
+use Rattle.token.specs.declared.Digits.{Digits}
+use Rattle.token.specs.declared.Digits.the-variants as digits
+
+-- What a loop answers.
+pub digits-value : {s : List ℕ} {at e v : ℕ} → All s at e v → v ≤ largest → digits.Value v e ≡ digitsOf s at
+unfolding digitsOf
+digits-value {s} {at} {e} {v} a h = rw (a .value, le-leb v largest h, a .ends)
+
+pub digits-above : {s : List ℕ} {at i : ℕ} → Above largest s at i → (e : ℕ) → e ≡ past isDigit s i → digits.Above e ≡ digitsOf s at
+unfolding digitsOf
+digits-above {s} {at} {i} o e is = rw (is, o .ends, lt-leb (decimal 0 (drop at s)) largest (o .above))
+
+-- What the answer tells.
+abbrev pub Told : List ℕ → ℕ → Digits → Type 0
+Told s at (digits.Value v e) = All s at e v × (v ≤ largest)
+Told s at (digits.Above e) = All s at e (decimal 0 (drop at s)) × (largest < decimal 0 (drop at s))
+
+digits-tell : (s : List ℕ) (at : ℕ) → Told s at (digitsOf s at)
+unfolding digitsOf
+digits-tell s at =
+    let n = decimal 0 (drop at s) in
+    chosen (Told s at) (leb n largest) (λ e. (record { ends = refl; value = refl }, leb-true n largest e))
+    (λ e. (record { ends = refl; value = refl }, leb-false n largest e))
+
+pub told : (s : List ℕ) (at : ℕ) {d r : Digits} → d ≡ r → d ≡ digitsOf s at → Told s at r
+told s at e h = subst (Told s at) (sym h ∙ e) (digits-tell s at)
+
+-- Digits above 64 bits stand.
+pub above-stands : {s : List ℕ} {at e : ℕ} → Told s at (digits.Above e) → e ≡ at → ⊥
+above-stands {s} {at} {e} t h = digits-stand s at (omega (arith, t .1)) (t .0 .ends ∙ h)
