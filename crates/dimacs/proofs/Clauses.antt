@@ -11,9 +11,9 @@ use lib.IntN.{ℤ}
 use Rattle.dimacs.specs.Loop.{Step, again, answer}
 use Rattle.dimacs.specs.Names.{Reason, numbered, refusal, largest}
 use Rattle.dimacs.specs.Tokens.{unmoved, atEnd, linebreaks, intAt, uintAt, bracedUintAt, endOfLine, lineEnds, numberStands}
-use Rattle.dimacs.specs.Header.{Limits}
-use Rattle.dimacs.specs.Clauses.{Literals, closed, stopped, Reading, reads, onMissing, onInt, nextLiteral, literalsFrom, literals, Answer, clause, ended, refused, Answered, says, refuses, clauseOf, noClause, body, owed, marked, clauseAt}
+use Rattle.dimacs.specs.Clauses.{Literals, closed, stopped, Reading, reads, onMissing, onInt, nextLiteral, literalsFrom, literals, Answer, clause, ended, refused, Answered, says, refuses, clauseOf, noClause, body, owed, marked, plainAt, weightedAt, groupedAt, clauseAt}
 use Rattle.dimacs.specs.declared.Format.{Format}
+use Rattle.dimacs.specs.declared.Limits.{Limits}
 use Rattle.dimacs.specs.declared.Format.the-variants.{Plain, Weighted, Grouped}
 use Rattle.dimacs.specs.declared.Refusal.{Refusal}
 use Rattle.dimacs.specs.declared.Uint.{Uint}
@@ -158,7 +158,7 @@ module _ (s : List ℕ) (limits : Limits) (room : ℕ) where
 
   -- A clause ends within the text and leaves fewer to come; the end is at the text's end; a refusal's place is within reach.
   pub clause-at-onward : (f : Format) (endPermitted : Bool) (at : ℕ) → Onward s at (clauseAt s limits room f endPermitted at)
-  unfolding clauseAt
+  unfolding clauseAt plainAt weightedAt groupedAt
   clause-at-onward Plain endPermitted at =
       number-stands (Onward s at) (intAt s (limits .literals) at) (body-onward 0 at) (no-clause-onward s endPermitted at)
   clause-at-onward Weighted endPermitted at = marked-onward Reason.weightTooBig endPermitted at (uintAt s largest at) (uint-moves s largest at)

@@ -193,6 +193,12 @@ UintMoves s at uint.Missing = Unit {0}
 UintMoves s at (uint.Value n e) = Moves s at e
 UintMoves s at uint.TooBig = Unit {0}
 
+-- A value is within its limit.
+abbrev pub UintWithin : ℕ → Uint → Type 0
+UintWithin limit uint.Missing = Unit {0}
+UintWithin limit (uint.Value n e) = n ≤ limit
+UintWithin limit uint.TooBig = Unit {0}
+
 abbrev pub IntMoves : List ℕ → ℕ → Int → Type 0
 IntMoves s at int.Missing = Unit {0}
 IntMoves s at (int.Zero e) = Moves s at e
@@ -228,6 +234,14 @@ module _ (s : List ℕ) where
   pub uint-moves : (limit at : ℕ) → UintMoves s at (uintAt s limit at)
   unfolding uintAt
   uint-moves limit at = up-to-moves limit at (unsigned s at) (unsigned-moves at)
+
+  pub uint-within : (limit at : ℕ) → UintWithin limit (uintAt s limit at)
+  unfolding uintAt
+  uint-within limit at = go (unsigned s at)
+    where
+      go : (n : Number) → UintWithin limit (upTo limit n)
+      go none = tt
+      go (found n e) = chosen (UintWithin limit) (leb n limit) (λ t. leb-true n limit t) (λ _. tt)
 
   pub braced-uint-moves : (limit at : ℕ) → UintMoves s at (bracedUintAt s limit at)
   unfolding bracedUintAt

@@ -11,12 +11,16 @@ use Rattle.dimacs.specs.Loop.{Turn, on, last}
 use Rattle.dimacs.specs.Bytes.{bytes}
 use Rattle.dimacs.specs.Names.{Reason, numbered, refusal, ceiling, largest}
 use Rattle.dimacs.specs.Tokens.{unmoved, blanks, lines, word, uintAt, endOfLine, lineEnds}
-use Rattle.dimacs.specs.Header.{Opening, header, noHeader, badHeader, formatWord, headerOf, counted, count, thirdCount, counts, afterP, opening, Limits, unlimited, limitsOf}
+use Rattle.dimacs.specs.Header.{formatWord, headerOf, counted, headerEnd, thirdThere, thirdCount, clauseCount, variableCount, afterP, openingOf, unlimited, limitsOf}
 use Rattle.dimacs.specs.Clauses.{Answer, clause, ended, refused, Answered, says, noClause, clauseAt}
 use Rattle.dimacs.specs.Texts.{Cursor, cursorAt, oneMore, nextClause, answerBy, answerAt, settledBy, settled, turnBy, turn, answersFrom, begin, Text, textBy, text}
 use Rattle.dimacs.specs.declared.Format.{Format}
+use Rattle.dimacs.specs.declared.Limits.{Limits}
 use Rattle.dimacs.specs.declared.Format.the-variants.{Plain, Weighted, Grouped}
 use Rattle.dimacs.specs.declared.Mode.{Mode}
+use Rattle.dimacs.specs.declared.Header.{Header}
+use Rattle.dimacs.specs.declared.Opening.{Opening}
+use Rattle.dimacs.specs.declared.Opening.the-variants as opening
 use Rattle.dimacs.specs.declared.Refusal.{Refusal}
 use Rattle.dimacs.specs.declared.Uint.{Uint}
 use Rattle.dimacs.specs.declared.Uint.the-variants as uint
@@ -26,49 +30,56 @@ use Rattle.dimacs.specs.declared.Final.{Final}
 use Rattle.dimacs.specs.declared.Final.the-variants as final
 use Rattle.dimacs.proofs.Loops.{andOn, Gives, Lowers, said-unrolled, said-has}
 use Rattle.dimacs.proofs.Tests.{chosen}
-use Rattle.dimacs.proofs.Spans.{Spans, then-spans, EndCloses, end-closes, blanks-spans, lines-spans, word-spans, UintMoves, uint-moves}
+use Rattle.dimacs.proofs.Spans.{Spans, then-spans, EndCloses, end-closes, blanks-spans, lines-spans, word-spans, UintMoves, uint-moves, UintWithin, uint-within}
 use Rattle.dimacs.proofs.Clauses.{toCome, Placed, Onward, back, no-clause-onward, clause-at-onward}
 
--- Where a text opens: the clauses begin, or the header is refused, within the text.
+-- Where a text opens: the clauses begin, or the header is refused, within the text, and no more variables are counted than the ceiling.
 abbrev pub Opens : List ℕ → Opening → Type 0
-Opens s (header h at) = at ≤ length s
-Opens s (noHeader at) = at ≤ length s
-Opens s (badHeader r) = r .place ≤ length s
+Opens s (opening.Header h at) = (at ≤ length s) × (h .variables ≤ ceiling)
+Opens s (opening.NoHeader at) = at ≤ length s
+Opens s (opening.Refused r) = r .place ≤ length s
 
 module _ (s : List ℕ) where
-  counted-opens : (none big : Reason) (at : ℕ) (then : ℕ → ℕ → Opening) → at ≤ length s → ((n e : ℕ) → e ≤ length s → Opens s (then n e))
-      → (u : Uint) → UintMoves s at u → Opens s (counted s none big at then u)
+  counted-opens : (none big : Reason) (limit at : ℕ) (then : ℕ → ℕ → Opening) → at ≤ length s
+      → ((n e : ℕ) → n ≤ limit → e ≤ length s → Opens s (then n e)) → Opens s (counted s none big at then (uintAt s limit at))
   unfolding numbered
-  counted-opens none big at then h k uint.Missing m = h
-  counted-opens none big at then h k uint.TooBig m = h
-  counted-opens none big at then h k (uint.Value n e) m = k n e (m .within)
-
-  count-opens : (none big : Reason) (limit at : ℕ) (then : ℕ → ℕ → Opening) → at ≤ length s → ((n e : ℕ) → e ≤ length s → Opens s (then n e))
-      → Opens s (count s none big limit at then)
-  unfolding count
-  count-opens none big limit at then h k = counted-opens none big at then h k (uintAt s limit at) (uint-moves s limit at)
-
-  third-opens : (f : Format) (at : ℕ) (then : ℕ → ℕ → Opening) → at ≤ length s → ((n e : ℕ) → e ≤ length s → Opens s (then n e))
-      → Opens s (thirdCount s f at then)
-  unfolding thirdCount
-  third-opens Plain at then h k = k 0 at h
-  third-opens Weighted at then h k = count-opens Reason.thirdCountExpected Reason.thirdCountTooBig largest at then h k
-  third-opens Grouped at then h k = count-opens Reason.thirdCountExpected Reason.thirdCountTooBig largest at then h k
-
-  counts-opens : (f : Format) (at : ℕ) → at ≤ length s → Opens s (counts s f at)
-  unfolding counts numbered
-  counts-opens f at h =
-      count-opens _ _ _ at _ h λ v a₁ h₁.
-      count-opens _ _ _ a₁ _ h₁ λ c a₂ h₂.
-      third-opens f a₂ _ h₂ λ t a₃ h₃.
-      close (headerOf v c t) a₃ h₃ (endOfLine s a₃) (end-closes s a₃)
+  counted-opens none big limit at then h k = go (uintAt s limit at) (uint-moves s limit at) (uint-within s limit at)
     where
-      close : (h : _) (a : ℕ) → a ≤ length s → (x : EndOfLine) → EndCloses s a x → Opens s (lineEnds x (header h) (badHeader (refusal s Reason.lineEndExpected a)))
-      close h a l end.Missing c = l
-      close h a l (end.Past e) c = omega arith
+      go : (u : Uint) → UintMoves s at u → UintWithin limit u → Opens s (counted s none big at then u)
+      go uint.Missing m w = h
+      go uint.TooBig m w = h
+      go (uint.Value n e) m w = k n e w (m .within)
 
-  pub opening-opens : (f : Format) → Opens s (opening s f)
-  unfolding opening afterP numbered
+  header-end-opens : (h : Header) (at : ℕ) → h .variables ≤ ceiling → at ≤ length s → Opens s (headerEnd s h at)
+  unfolding headerEnd numbered
+  header-end-opens h at k l = go (endOfLine s at) (end-closes s at)
+    where
+      go : (x : EndOfLine) → EndCloses s at x → Opens s (lineEnds x (opening.Header h) (opening.Refused (refusal s Reason.lineEndExpected at)))
+      go end.Missing c = l
+      go (end.Past e) c = omega arith
+
+  third-opens : (f : Format) (v c at : ℕ) → v ≤ ceiling → at ≤ length s → Opens s (thirdCount s f v c at)
+  unfolding thirdCount thirdThere
+  third-opens f v c at k l = go f
+    where
+      there : Opens s (thirdThere s v c at)
+      there = counted-opens _ _ largest at _ l (λ t e _ m. header-end-opens (headerOf v c t) e k m)
+
+      go : (f : Format) → Opens s (thirdCount s f v c at)
+      go Plain = header-end-opens (headerOf v c 0) at k l
+      go Weighted = there
+      go Grouped = there
+
+  clause-count-opens : (f : Format) (v at : ℕ) → v ≤ ceiling → at ≤ length s → Opens s (clauseCount s f v at)
+  unfolding clauseCount
+  clause-count-opens f v at k l = counted-opens _ _ largest at _ l (λ c e _ m. third-opens f v c e k m)
+
+  variable-count-opens : (f : Format) (at : ℕ) → at ≤ length s → Opens s (variableCount s f at)
+  unfolding variableCount
+  variable-count-opens f at l = counted-opens _ _ ceiling at _ l (λ v e k m. clause-count-opens f v e k m)
+
+  pub opening-opens : (f : Format) → Opens s (openingOf s f)
+  unfolding openingOf afterP numbered
   opening-opens f =
       let a = lines s (blanks s 0) in
       let p = word s (bytes "p") a in
@@ -76,7 +87,8 @@ module _ (s : List ℕ) where
       let h = then-spans (blanks-spans s 0) (lines-spans s (blanks s 0)) in
       let k = then-spans h (word-spans s (bytes "p") a) in
       let l = then-spans k (word-spans s (formatWord f) p) in
-      chosen (Opens s) (unmoved a p) (λ _. omega arith) (λ _. chosen (Opens s) (unmoved p e) (λ _. omega arith) (λ _. counts-opens f e (omega arith)))
+      chosen (Opens s) (unmoved a p) (λ _. omega arith)
+      (λ _. chosen (Opens s) (unmoved p e) (λ _. omega arith) (λ _. variable-count-opens f e (omega arith)))
 
 -- So many clauses, and then the end or a refusal.
 pub data Finishes : ℕ → List Answer → Type 0 where
@@ -157,18 +169,18 @@ repeated s f limits room c at (refused r so) = record { answer = refl; cursor = 
 
 -- A whole text: a refused header has no answers; else they finish, with at most (n + 1) / 2 clauses in n bytes.
 abbrev pub TextEnds : List ℕ → Opening → List Answer → Type 0
-TextEnds s (header h at) l = Finished ((length s + 1) / 2) l
-TextEnds s (noHeader at) l = Finished ((length s + 1) / 2) l
-TextEnds s (badHeader r) l = l ≡ []
+TextEnds s (opening.Header h at) l = Finished ((length s + 1) / 2) l
+TextEnds s (opening.NoHeader at) l = Finished ((length s + 1) / 2) l
+TextEnds s (opening.Refused r) l = l ≡ []
 
 pub text-ends : (f : Format) (m : Mode) (room : ℕ) (s : List ℕ) → TextEnds s (text f m room s .opened) (text f m room s .answers)
 unfolding text
-text-ends f m room s = go (opening s f)
+text-ends f m room s = go (openingOf s f)
   where
     from : (limits : Limits) (at : ℕ) → Finished ((length s + 1) / 2) (answersFrom s f limits room (begin at))
     from limits at = let d = answers-finish s f limits room (begin at) in record { clauses = d .clauses; few = omega (arith, d .few); so = d .so }
 
     go : (o : Opening) → TextEnds s (textBy f m room s o .opened) (textBy f m room s o .answers)
-    go (header h at) = from (limitsOf f m h) at
-    go (noHeader at) = from unlimited at
-    go (badHeader r) = refl
+    go (opening.Header h at) = from (limitsOf f m h) at
+    go (opening.NoHeader at) = from unlimited at
+    go (opening.Refused r) = refl

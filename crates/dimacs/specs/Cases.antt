@@ -9,8 +9,8 @@ use Rattle.dimacs.specs.Loop.{loop, said}
 use Rattle.dimacs.specs.Bytes.{bytes}
 use Rattle.dimacs.specs.Names.{numbered}
 use Rattle.dimacs.specs.Tokens.{run, past, begins, decimal, lineEnd, nextLine, endOfLine, fixed, wordEnds, word, comment, strictComment, newline, commentOrNewline, lines, linebreaks, unsigned, braced, minus, uintAt, bracedUintAt, intAt, stoppedAt}
-use Rattle.dimacs.specs.Header.{headerOf, Opening, header, noHeader, badHeader, count, thirdCount, counts, afterP, opening}
-use Rattle.dimacs.specs.Clauses.{nextLiteral, literalsFrom, literals, Answer, clause, ended, refused, noClause, body, owed, clauseAt}
+use Rattle.dimacs.specs.Header.{headerOf, headerEnd, thirdThere, thirdCount, clauseCount, variableCount, afterP, openingOf}
+use Rattle.dimacs.specs.Clauses.{nextLiteral, literalsFrom, literals, Answer, clause, ended, refused, noClause, body, owed, plainAt, weightedAt, groupedAt, clauseAt}
 use Rattle.dimacs.specs.Texts.{nextClause, answerAt, turn, answersFrom, Text, text}
 use Rattle.dimacs.specs.Logs.{LogAnswer, accepted, refusedLog, nextValue, valuesFrom, valueLine, solutionLine, logLine, logFrom, log}
 use Rattle.dimacs.specs.Writing.{Written, written, unwritten, nextDigit, digits, headerLine, clauseLine, writeHeader, writeClause}
@@ -18,6 +18,8 @@ use Rattle.dimacs.specs.declared.Format.{Format}
 use Rattle.dimacs.specs.declared.Format.the-variants.{Plain, Weighted, Grouped}
 use Rattle.dimacs.specs.declared.Mode.{Mode}
 use Rattle.dimacs.specs.declared.Mode.the-variants.{Strict, Lenient}
+use Rattle.dimacs.specs.declared.Opening.{Opening}
+use Rattle.dimacs.specs.declared.Opening.the-variants as opening
 use Rattle.dimacs.specs.declared.Refusal.{Refusal}
 use Rattle.dimacs.specs.declared.Verdict.{Verdict}
 use Rattle.dimacs.specs.declared.Verdict.the-variants.{Yes, No, Unknown}
@@ -40,9 +42,9 @@ answerLine ended = End
 answerLine (refused r so) = refusedLine r so
 
 abbrev openingLines : Opening → List Line → List Line
-openingLines (header h at) rest = Header (h .variables) (h .clauses) (h .third) ∷ rest
-openingLines (noHeader at) rest = NoHeader ∷ rest
-openingLines (badHeader r) rest = refusedLine r [] ∷ []
+openingLines (opening.Header h at) rest = Header (h .variables) (h .clauses) (h .third) ∷ rest
+openingLines (opening.NoHeader at) rest = NoHeader ∷ rest
+openingLines (opening.Refused r) rest = refusedLine r [] ∷ []
 
 abbrev textLines : Text → List Line
 textLines t = openingLines (t .opened) (map answerLine (t .answers))
@@ -69,7 +71,7 @@ linesBy Log m room s = logLines (log s m room)
 
 -- What the definition says of a case's text.
 pub linesOf : Case → List Line
-unfolding loop said numbered run past begins decimal lineEnd nextLine endOfLine fixed wordEnds word comment strictComment newline commentOrNewline lines linebreaks unsigned braced minus uintAt bracedUintAt intAt count thirdCount counts afterP opening nextLiteral literalsFrom literals noClause body owed clauseAt nextClause answerAt turn answersFrom text nextValue valuesFrom valueLine solutionLine logLine logFrom log
+unfolding loop said numbered run past begins decimal lineEnd nextLine endOfLine fixed wordEnds word comment strictComment newline commentOrNewline lines linebreaks unsigned braced minus uintAt bracedUintAt intAt headerEnd thirdThere thirdCount clauseCount variableCount afterP openingOf nextLiteral literalsFrom literals noClause body owed plainAt weightedAt groupedAt clauseAt nextClause answerAt turn answersFrom text nextValue valuesFrom valueLine solutionLine logLine logFrom log
 linesOf c = linesBy (c .kind) (c .mode) (c .room) (bytes (c .quoted))
 
 -- The definition says of every text in the table what is expected.

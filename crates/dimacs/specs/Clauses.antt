@@ -8,8 +8,8 @@ use lib.IntN.{ℤ}
 use Rattle.dimacs.specs.Loop.{Step, again, answer, loop}
 use Rattle.dimacs.specs.Names.{Reason, refusal, largest}
 use Rattle.dimacs.specs.Tokens.{unmoved, atEnd, linebreaks, intAt, uintAt, bracedUintAt, endOfLine, lineEnds, numberStands}
-use Rattle.dimacs.specs.Header.{Limits}
 use Rattle.dimacs.specs.declared.Format.{Format}
+use Rattle.dimacs.specs.declared.Limits.{Limits}
 use Rattle.dimacs.specs.declared.Format.the-variants.{Plain, Weighted, Grouped}
 use Rattle.dimacs.specs.declared.Refusal.{Refusal}
 use Rattle.dimacs.specs.declared.Uint.{Uint}
@@ -112,8 +112,20 @@ module _ (s : List ℕ) (limits : Limits) (room : ℕ) where
   marked big endPermitted at uint.TooBig = refuses s big at []
   marked big endPermitted at (uint.Value extra next) = owed extra next
 
-  -- A clause at a place where no comment and no line end stands. It begins with its weight, its group or its first number.
+  -- A plain clause begins with its first number.
+  unfoldable pub plainAt : Bool → ℕ → Answered
+  plainAt endPermitted at = numberStands (intAt s (limits .literals) at) (body 0 at) (noClause s endPermitted at)
+
+  -- A weighted clause begins with its weight.
+  unfoldable pub weightedAt : Bool → ℕ → Answered
+  weightedAt endPermitted at = marked Reason.weightTooBig endPermitted at (uintAt s largest at)
+
+  -- A grouped clause begins with its group.
+  unfoldable pub groupedAt : Bool → ℕ → Answered
+  groupedAt endPermitted at = marked Reason.groupTooBig endPermitted at (bracedUintAt s (limits .groups) at)
+
+  -- A clause at a place where no comment and no line end stands.
   unfoldable pub clauseAt : Format → Bool → ℕ → Answered
-  clauseAt Plain endPermitted at = numberStands (intAt s (limits .literals) at) (body 0 at) (noClause s endPermitted at)
-  clauseAt Weighted endPermitted at = marked Reason.weightTooBig endPermitted at (uintAt s largest at)
-  clauseAt Grouped endPermitted at = marked Reason.groupTooBig endPermitted at (bracedUintAt s (limits .groups) at)
+  clauseAt Plain = plainAt
+  clauseAt Weighted = weightedAt
+  clauseAt Grouped = groupedAt

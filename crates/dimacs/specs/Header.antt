@@ -10,16 +10,12 @@ use Rattle.dimacs.specs.declared.Format.{Format}
 use Rattle.dimacs.specs.declared.Format.the-variants.{Plain, Weighted, Grouped}
 use Rattle.dimacs.specs.declared.Mode.{Mode}
 use Rattle.dimacs.specs.declared.Mode.the-variants.{Strict, Lenient}
-use Rattle.dimacs.specs.declared.Refusal.{Refusal}
+use Rattle.dimacs.specs.declared.Opening.{Opening}
+use Rattle.dimacs.specs.declared.Opening.the-variants as opening
 use Rattle.dimacs.specs.declared.Header.{Header}
+use Rattle.dimacs.specs.declared.Limits.{Limits}
 use Rattle.dimacs.specs.declared.Uint.{Uint}
 use Rattle.dimacs.specs.declared.Uint.the-variants as uint
-
--- A text opens with a header or with none, and the clauses begin at a place; or its header is refused.
-pub data Opening : Type 0 where
-  header : Header → ℕ → Opening
-  noHeader : ℕ → Opening
-  badHeader : Refusal → Opening
 
 -- The word of a format in its header.
 abbrev pub formatWord : Format → List ℕ
@@ -34,46 +30,44 @@ headerOf v c t = record { variables = v; clauses = c; third = t }
 module _ (s : List ℕ) where
   -- What follows a count; or it is refused, for one reason where none stands and for another where it is too big.
   abbrev pub counted : Reason → Reason → ℕ → (ℕ → ℕ → Opening) → Uint → Opening
-  counted none big at then uint.Missing = badHeader (refusal s none at)
-  counted none big at then uint.TooBig = badHeader (refusal s big at)
+  counted none big at then uint.Missing = opening.Refused (refusal s none at)
+  counted none big at then uint.TooBig = opening.Refused (refusal s big at)
   counted none big at then (uint.Value n next) = then n next
 
-  -- A count with its limit, and what follows it.
-  unfoldable pub count : Reason → Reason → ℕ → ℕ → (ℕ → ℕ → Opening) → Opening
-  count none big limit at then = counted none big at then (uintAt s limit at)
+  -- After the counts, a line end or the end of the text.
+  unfoldable pub headerEnd : Header → ℕ → Opening
+  headerEnd h at = lineEnds (endOfLine s at) (opening.Header h) (opening.Refused (refusal s Reason.lineEndExpected at))
+
+  -- A third count, and what follows.
+  unfoldable pub thirdThere : ℕ → ℕ → ℕ → Opening
+  thirdThere v c at = counted Reason.thirdCountExpected Reason.thirdCountTooBig at (λ t. headerEnd (headerOf v c t)) (uintAt s largest at)
 
   -- The top weight of a weighted text, the count of groups of a grouped one. A plain one has no third count.
-  unfoldable pub thirdCount : Format → ℕ → (ℕ → ℕ → Opening) → Opening
-  thirdCount Plain at then = then 0 at
-  thirdCount Weighted at then = count Reason.thirdCountExpected Reason.thirdCountTooBig largest at then
-  thirdCount Grouped at then = count Reason.thirdCountExpected Reason.thirdCountTooBig largest at then
+  unfoldable pub thirdCount : Format → ℕ → ℕ → ℕ → Opening
+  thirdCount Plain v c = headerEnd (headerOf v c 0)
+  thirdCount Weighted v c = thirdThere v c
+  thirdCount Grouped v c = thirdThere v c
 
-  -- V, C, the third count, and a line end or the end of the text.
-  unfoldable pub counts : Format → ℕ → Opening
-  counts f at =
-      count Reason.variableCountExpected Reason.variableCountTooBig ceiling at λ v at₁.
-      count Reason.clauseCountExpected Reason.clauseCountTooBig largest at₁ λ c at₂.
-      thirdCount f at₂ λ t at₃.
-      lineEnds (endOfLine s at₃) (header (headerOf v c t)) (badHeader (refusal s Reason.lineEndExpected at₃))
+  -- The count of clauses, and what follows.
+  unfoldable pub clauseCount : Format → ℕ → ℕ → Opening
+  clauseCount f v at = counted Reason.clauseCountExpected Reason.clauseCountTooBig at (thirdCount f v) (uintAt s largest at)
+
+  -- The count of variables, and what follows.
+  unfoldable pub variableCount : Format → ℕ → Opening
+  variableCount f at = counted Reason.variableCountExpected Reason.variableCountTooBig at (clauseCount f) (uintAt s ceiling at)
 
   -- What follows `p`: the format's word, and the counts.
   unfoldable pub afterP : Format → ℕ → Opening
   afterP f at =
       let e = word s (formatWord f) at in
-      cond (unmoved at e) (badHeader (refusal s Reason.formatWordExpected at)) (counts f e)
+      cond (unmoved at e) (opening.Refused (refusal s Reason.formatWordExpected at)) (variableCount f e)
 
   -- Blanks, comments and line ends are skipped. If the word `p` follows, the header must.
-  unfoldable pub opening : Format → Opening
-  opening f =
+  unfoldable pub openingOf : Format → Opening
+  openingOf f =
       let at = lines s (blanks s 0) in
       let e = word s (bytes "p") at in
-      cond (unmoved at e) (noHeader at) (afterP f e)
-
--- The limits of a text: of literals either way, of groups, and of clauses, where 0 is no limit.
-pub record Limits : Type 0 where
-  pub literals : ℕ
-  pub groups : ℕ
-  pub clauses : ℕ
+      cond (unmoved at e) (opening.NoHeader at) (afterP f e)
 
 -- The limits where no count applies.
 abbrev pub unlimited : Limits

@@ -7,10 +7,13 @@ use lib.Dec.{ltb, leb, eqb}
 use Rattle.dimacs.specs.Loop.{Turn, on, last, said}
 use Rattle.dimacs.specs.Names.{largest}
 use Rattle.dimacs.specs.Tokens.{blanks, lines}
-use Rattle.dimacs.specs.Header.{Opening, header, noHeader, badHeader, opening, Limits, unlimited, limitsOf}
+use Rattle.dimacs.specs.Header.{openingOf, unlimited, limitsOf}
 use Rattle.dimacs.specs.Clauses.{Answer, clause, ended, refused, Answered, says, noClause, clauseAt}
 use Rattle.dimacs.specs.declared.Format.{Format}
+use Rattle.dimacs.specs.declared.Limits.{Limits}
 use Rattle.dimacs.specs.declared.Mode.{Mode}
+use Rattle.dimacs.specs.declared.Opening.{Opening}
+use Rattle.dimacs.specs.declared.Opening.the-variants as opening
 use Rattle.dimacs.specs.declared.Final.{Final}
 use Rattle.dimacs.specs.declared.Final.the-variants as final
 
@@ -85,10 +88,12 @@ pub record Text : Type 0 where
 
 -- What is read of a text, by its opening.
 abbrev pub textBy : Format → Mode → ℕ → List ℕ → Opening → Text
-textBy f m room s (header h at) = record { opened = header h at; answers = answersFrom s f (limitsOf f m h) room (begin at) }
-textBy f m room s (noHeader at) = record { opened = noHeader at; answers = answersFrom s f unlimited room (begin at) }
-textBy f m room s (badHeader r) = record { opened = badHeader r; answers = [] }
+textBy f m room s (opening.Header h at) =
+    record { opened = opening.Header h at; answers = answersFrom s f (limitsOf f m h) room (begin at) }
+textBy f m room s (opening.NoHeader at) =
+    record { opened = opening.NoHeader at; answers = answersFrom s f unlimited room (begin at) }
+textBy f m room s (opening.Refused r) = record { opened = opening.Refused r; answers = [] }
 
 -- The text s, read in a format and a mode with room for so many literals in a clause.
 unfoldable pub text : Format → Mode → ℕ → List ℕ → Text
-text f m room s = textBy f m room s (opening s f)
+text f m room s = textBy f m room s (openingOf s f)

@@ -132,6 +132,20 @@ pub struct Header {
     pub third: u64,
 }
 
+// The limits of a text: of literals either way, of groups, and of clauses, where 0 is no limit.
+pub struct Limits {
+    pub literals: u32,
+    pub groups: u64,
+    pub clauses: u64,
+}
+
+// How a text of clauses opens: with a header or with none, and the place where the clauses begin; or with a header that is refused.
+pub enum Opening {
+    Header(Header, usize),
+    NoHeader(usize),
+    Refused(Refusal),
+}
+
 // The answer that later calls repeat, once there is one.
 pub enum Final {
     Open,

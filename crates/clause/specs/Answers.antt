@@ -1,0 +1,53 @@
+-- The answers of the code by those of the definition, case by case, and what the lent buffer holds after them.
+use Prim.Native.Nat.{ℕ}
+use mathlib.Core.List.{List, [], _++_}
+use mathlib.Core.Path.{_≡_}
+use lib.ListN.{length, drop}
+use lib.IntN.{ℤ}
+use Rattle.dimacs.specs.Names.{numbered}
+use Rattle.dimacs.specs.Clauses as def
+use Rattle.clause.specs.declared.Literals.{Literals}
+use Rattle.clause.specs.declared.Literals.the-variants.{Closed, Stopped}
+use Rattle.clause.specs.declared.Next.{Next}
+use Rattle.clause.specs.declared.Next.the-variants as next
+use Rattle.clause.specs.declared.Answered.{Answered}
+
+-- The literals read, then the old contents.
+abbrev pub laid : List ℤ → List ℤ → List ℤ
+laid so old = so ++ drop (length so) old
+
+abbrev pub literalsOf : def.Literals → Literals
+literalsOf (def.closed so at) = Closed (length so) at
+literalsOf (def.stopped r so) = Stopped r (length so)
+
+abbrev pub readOf : def.Literals → List ℤ
+readOf (def.closed so at) = so
+readOf (def.stopped r so) = so
+
+-- Reading literals: the answer, and the buffer after it.
+pub record Reads (s : List ℕ) (limit at : ℕ) (old new : List ℤ) (r : Literals) : Type 0 where
+  pub answer : r ≡ literalsOf (def.literals s limit (length old) at)
+  pub buffer : new ≡ laid (readOf (def.literals s limit (length old) at)) old
+
+-- A clause is told by its weight or group and its count of literals, a refusal by its number and place and the count of literals before it.
+abbrev pub nextOf : def.Answer → Next
+nextOf (def.clause extra so) = next.Clause extra (length so)
+nextOf def.ended = next.Ended
+nextOf (def.refused r so) = next.Refused r (length so)
+
+-- The literals that an answer leaves in the buffer.
+abbrev pub leftBy : def.Answer → List ℤ
+leftBy (def.clause extra so) = so
+leftBy def.ended = []
+leftBy (def.refused r so) = so
+
+abbrev pub answeredOf : def.Answered → Answered
+answeredOf d = record { answer = nextOf (d .answer); place = d .place }
+
+abbrev pub refusedOf : List ℕ → ℕ → ℕ → ℕ → Answered
+refusedOf s number at count = record { answer = next.Refused (numbered s number at) count; place = at }
+
+-- An answer of the definition is given: the answer, and the buffer after it.
+pub record Answers (d : def.Answered) (old new : List ℤ) (r : Answered) : Type 0 where
+  pub answer : r ≡ answeredOf d
+  pub buffer : new ≡ laid (leftBy (d .answer)) old

@@ -1,0 +1,2 @@
+-- The answers of the readers, by those of the definition.
+pub mod Answers

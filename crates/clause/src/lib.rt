@@ -1,0 +1,207 @@
+// A clause of each format, read into a lent buffer of literals.
+ghost use mathlib.Core.Path.{_≡_};
+ghost use lib.ListN.{length};
+ghost use Rattle.dimacs.specs.Clauses.{noClause, body, owed, plainAt, weightedAt, groupedAt, clauseAt};
+ghost use Rattle.clause.specs.Answers.{answeredOf, refusedOf, Reads, Answers};
+use dimacs::BUFFER_FULL;
+use dimacs::CLAUSE_EXPECTED;
+use dimacs::EndOfLine;
+use dimacs::Format;
+use dimacs::GROUP_TOO_BIG;
+use dimacs::Int;
+use dimacs::LARGEST;
+use dimacs::LINE_END_EXPECTED;
+use dimacs::LITERAL_EXPECTED;
+use dimacs::LITERAL_EXPECTED_AFTER_LINES;
+use dimacs::LITERAL_TOO_BIG;
+use dimacs::LITERALS_EXPECTED;
+use dimacs::Limits;
+use dimacs::Refusal;
+use dimacs::Uint;
+use dimacs::WEIGHT_TOO_BIG;
+use dimacs::refuse;
+
+// What a list of literals comes to: how many there are and the place past the 0, or a refusal and how many stand before it.
+pub enum Literals {
+    Closed { count: usize, next: usize },
+    Stopped { refusal: Refusal, count: usize },
+}
+
+// What a call for the next clause answers.
+pub enum Next {
+    // A clause: its weight or group, 0 if the format has neither, and how many literals the buffer holds of it.
+    Clause { extra: u64, count: usize },
+    // The text is read to its end.
+    Ended,
+    // A refusal, and how many literals of the unfinished clause the buffer holds.
+    Refused { refusal: Refusal, count: usize },
+}
+
+// An answer, and the place where the next call begins.
+pub struct Answered {
+    pub answer: Next,
+    pub place: usize,
+}
+
+// The literals from a place at which a number stands, up to the 0.
+fn clause_lits(text: &[u8], at: usize, limit: u32, lits: &mut [i32]) -> Literals
+    ensures { λ r. ⌜ Reads (now (text .entry)) limit at (now (lits .entry)) (now (lits .exit)) r ⌝ }
+{
+    let mut place = at;
+    let mut count: usize = 0;
+    let mut fresh = false;
+    loop {
+        match token::int(text, place, limit) {
+            Int::Missing => {
+                if fresh {
+                    return Literals::Stopped {
+                        refusal: refuse(text, LITERAL_EXPECTED_AFTER_LINES, place),
+                        count,
+                    };
+                }
+                let past = token::non_terminating_linebreaks(text, place);
+                if past == place {
+                    return Literals::Stopped {
+                        refusal: refuse(text, LITERAL_EXPECTED, place),
+                        count,
+                    };
+                }
+                place = past;
+                fresh = true;
+            }
+            Int::Zero(next) => {
+                return Literals::Closed { count, next };
+            }
+            Int::TooBig => {
+                return Literals::Stopped {
+                    refusal: refuse(text, LITERAL_TOO_BIG, place),
+                    count,
+                };
+            }
+            Int::Literal(v, next) => {
+                if lits.len() <= count {
+                    return Literals::Stopped {
+                        refusal: refuse(text, BUFFER_FULL, place),
+                        count,
+                    };
+                }
+                lits[count] = v;
+                count += 1;
+                place = next;
+                fresh = false;
+            }
+        }
+    }
+}
+
+// A refusal as an answer.
+fn refused(text: &[u8], number: u8, place: usize, count: usize) -> Answered
+    ensures { λ r. ⌜ r ≡ refusedOf (now (text .entry)) number place count ⌝ }
+{
+    Answered {
+        answer: Next::Refused {
+            refusal: refuse(text, number, place),
+            count,
+        },
+        place,
+    }
+}
+
+// The literals of a clause with its 0, and what closes its line.
+fn clause_body(text: &[u8], at: usize, limits: Limits, extra: u64, lits: &mut [i32]) -> Answered
+    ensures { λ r. ⌜ Answers (body (now (text .entry)) limits (length (now (lits .entry))) extra at) (now (lits .entry)) (now (lits .exit)) r ⌝ }
+{
+    match clause_lits(text, at, limits.literals, lits) {
+        Literals::Closed { count, next } => match token::interactive_end_of_line(text, next) {
+            EndOfLine::Missing => refused(text, LINE_END_EXPECTED, next, count),
+            EndOfLine::Past(place) => Answered {
+                answer: Next::Clause { extra, count },
+                place,
+            },
+        },
+        Literals::Stopped { refusal, count } => Answered {
+            answer: Next::Refused { refusal, count },
+            place: refusal.place,
+        },
+    }
+}
+
+// Where no clause stands: the end of the text if it is permitted.
+pub fn no_clause(text: &[u8], at: usize, permitted: bool) -> Answered
+    ensures { λ r. ⌜ r ≡ answeredOf (noClause (now (text .entry)) permitted at) ⌝ }
+{
+    if permitted {
+        if token::eof(text, at) {
+            return Answered {
+                answer: Next::Ended,
+                place: at,
+            };
+        }
+        return refused(text, CLAUSE_EXPECTED, at, 0);
+    }
+    refused(text, CLAUSE_EXPECTED, at, 0)
+}
+
+// The literals owed after a weight or group.
+fn clause_owed(text: &[u8], at: usize, limits: Limits, extra: u64, lits: &mut [i32]) -> Answered
+    ensures { λ r. ⌜ Answers (owed (now (text .entry)) limits (length (now (lits .entry))) extra at) (now (lits .entry)) (now (lits .exit)) r ⌝ }
+{
+    let place = token::non_terminating_linebreaks(text, at);
+    match token::int(text, place, limits.literals) {
+        Int::Missing => refused(text, LITERALS_EXPECTED, place, 0),
+        _ => clause_body(text, place, limits, extra, lits),
+    }
+}
+
+fn plain_at(text: &[u8], at: usize, limits: Limits, permitted: bool, lits: &mut [i32]) -> Answered
+    ensures { λ r. ⌜ Answers (plainAt (now (text .entry)) limits (length (now (lits .entry))) permitted at) (now (lits .entry)) (now (lits .exit)) r ⌝ }
+{
+    match token::int(text, at, limits.literals) {
+        Int::Missing => no_clause(text, at, permitted),
+        _ => clause_body(text, at, limits, 0, lits),
+    }
+}
+
+fn weighted_at(
+    text: &[u8],
+    at: usize,
+    limits: Limits,
+    permitted: bool,
+    lits: &mut [i32],
+) -> Answered
+    ensures { λ r. ⌜ Answers (weightedAt (now (text .entry)) limits (length (now (lits .entry))) permitted at) (now (lits .entry)) (now (lits .exit)) r ⌝ }
+{
+    match token::uint(text, at, LARGEST) {
+        Uint::Missing => no_clause(text, at, permitted),
+        Uint::TooBig => refused(text, WEIGHT_TOO_BIG, at, 0),
+        Uint::Value(weight, next) => clause_owed(text, next, limits, weight, lits),
+    }
+}
+
+fn grouped_at(text: &[u8], at: usize, limits: Limits, permitted: bool, lits: &mut [i32]) -> Answered
+    ensures { λ r. ⌜ Answers (groupedAt (now (text .entry)) limits (length (now (lits .entry))) permitted at) (now (lits .entry)) (now (lits .exit)) r ⌝ }
+{
+    match token::braced_uint(text, at, limits.groups) {
+        Uint::Missing => no_clause(text, at, permitted),
+        Uint::TooBig => refused(text, GROUP_TOO_BIG, at, 0),
+        Uint::Value(group, next) => clause_owed(text, next, limits, group, lits),
+    }
+}
+
+// A clause at a place where no comment and no line end stands.
+pub fn clause_at(
+    text: &[u8],
+    at: usize,
+    format: Format,
+    limits: Limits,
+    permitted: bool,
+    lits: &mut [i32],
+) -> Answered
+    ensures { λ r. ⌜ Answers (clauseAt (now (text .entry)) limits (length (now (lits .entry))) format permitted at) (now (lits .entry)) (now (lits .exit)) r ⌝ }
+{
+    match format {
+        Format::Plain => plain_at(text, at, limits, permitted, lits),
+        Format::Weighted => weighted_at(text, at, limits, permitted, lits),
+        Format::Grouped => grouped_at(text, at, limits, permitted, lits),
+    }
+}

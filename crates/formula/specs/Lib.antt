@@ -1,0 +1,2 @@
+-- What the cursors of the code mean.
+pub mod Cursors

@@ -1,0 +1,117 @@
+// The opening of a text of clauses: its header, if it has one.
+ghost use mathlib.Core.Path.{_≡_};
+ghost use Rattle.dimacs.specs.Names.{numbered};
+ghost use Rattle.dimacs.specs.Tokens.{word};
+ghost use Rattle.dimacs.specs.declared.Opening.{Opening};
+ghost use Rattle.dimacs.specs.Header.{formatWord, headerOf, headerEnd, thirdThere, thirdCount, clauseCount, variableCount, afterP, openingOf};
+use dimacs::CEILING;
+use dimacs::CLAUSE_COUNT_EXPECTED;
+use dimacs::CLAUSE_COUNT_TOO_BIG;
+use dimacs::EndOfLine;
+use dimacs::FORMAT_WORD_EXPECTED;
+use dimacs::Format;
+use dimacs::Header;
+use dimacs::LARGEST;
+use dimacs::LINE_END_EXPECTED;
+use dimacs::Opening;
+use dimacs::THIRD_COUNT_EXPECTED;
+use dimacs::THIRD_COUNT_TOO_BIG;
+use dimacs::Uint;
+use dimacs::VARIABLE_COUNT_EXPECTED;
+use dimacs::VARIABLE_COUNT_TOO_BIG;
+use dimacs::refuse;
+
+// Past the format's word.
+fn format_word(text: &[u8], at: usize, format: Format) -> usize
+    ensures { λ r. ⌜ r ≡ word (now (text .entry)) (formatWord format) at ⌝ }
+{
+    match format {
+        Format::Plain => token::word(text, at, b"cnf"),
+        Format::Weighted => token::word(text, at, b"wcnf"),
+        Format::Grouped => token::word(text, at, b"gcnf"),
+    }
+}
+
+fn refused(text: &[u8], number: u8, place: usize) -> Opening
+    ensures { λ r. ⌜ r ≡ Opening.Refused (numbered (now (text .entry)) number place) ⌝ }
+{
+    Opening::Refused(refuse(text, number, place))
+}
+
+fn header_end(text: &[u8], at: usize, variables: u64, clauses: u64, third: u64) -> Opening
+    ensures { λ r. ⌜ r ≡ headerEnd (now (text .entry)) (headerOf variables clauses third) at ⌝ }
+{
+    match token::interactive_end_of_line(text, at) {
+        EndOfLine::Missing => refused(text, LINE_END_EXPECTED, at),
+        EndOfLine::Past(next) => Opening::Header(
+            Header {
+                variables,
+                clauses,
+                third,
+            },
+            next,
+        ),
+    }
+}
+
+fn third_there(text: &[u8], at: usize, variables: u64, clauses: u64) -> Opening
+    ensures { λ r. ⌜ r ≡ thirdThere (now (text .entry)) variables clauses at ⌝ }
+{
+    match token::uint(text, at, LARGEST) {
+        Uint::Missing => refused(text, THIRD_COUNT_EXPECTED, at),
+        Uint::TooBig => refused(text, THIRD_COUNT_TOO_BIG, at),
+        Uint::Value(third, next) => header_end(text, next, variables, clauses, third),
+    }
+}
+
+fn third_count(text: &[u8], at: usize, format: Format, variables: u64, clauses: u64) -> Opening
+    ensures { λ r. ⌜ r ≡ thirdCount (now (text .entry)) format variables clauses at ⌝ }
+{
+    match format {
+        Format::Plain => header_end(text, at, variables, clauses, 0),
+        Format::Weighted => third_there(text, at, variables, clauses),
+        Format::Grouped => third_there(text, at, variables, clauses),
+    }
+}
+
+fn clause_count(text: &[u8], at: usize, format: Format, variables: u64) -> Opening
+    ensures { λ r. ⌜ r ≡ clauseCount (now (text .entry)) format variables at ⌝ }
+{
+    match token::uint(text, at, LARGEST) {
+        Uint::Missing => refused(text, CLAUSE_COUNT_EXPECTED, at),
+        Uint::TooBig => refused(text, CLAUSE_COUNT_TOO_BIG, at),
+        Uint::Value(clauses, next) => third_count(text, next, format, variables, clauses),
+    }
+}
+
+fn var_count(text: &[u8], at: usize, format: Format) -> Opening
+    ensures { λ r. ⌜ r ≡ variableCount (now (text .entry)) format at ⌝ }
+{
+    match token::uint(text, at, CEILING as u64) {
+        Uint::Missing => refused(text, VARIABLE_COUNT_EXPECTED, at),
+        Uint::TooBig => refused(text, VARIABLE_COUNT_TOO_BIG, at),
+        Uint::Value(variables, next) => clause_count(text, next, format, variables),
+    }
+}
+
+fn after_p(text: &[u8], at: usize, format: Format) -> Opening
+    ensures { λ r. ⌜ r ≡ afterP (now (text .entry)) format at ⌝ }
+{
+    let past = format_word(text, at, format);
+    if past == at {
+        return refused(text, FORMAT_WORD_EXPECTED, at);
+    }
+    var_count(text, past, format)
+}
+
+// How a text opens in a format.
+pub fn parse_header(text: &[u8], format: Format) -> Opening
+    ensures { λ r. ⌜ r ≡ openingOf (now (text .entry)) format ⌝ }
+{
+    let at = token::comments_and_newlines(text, token::skip_whitespace(text, 0));
+    let past = token::word(text, at, b"p");
+    if past == at {
+        return Opening::NoHeader(at);
+    }
+    after_p(text, past, format)
+}
