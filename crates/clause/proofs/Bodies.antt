@@ -23,6 +23,10 @@ use Rattle.clause.specs.declared.Literals.the-variants.{Closed, Stopped}
 use Rattle.clause.specs.declared.Next.the-variants as next
 use Rattle.clause.specs.declared.Answered.{Answered}
 
+-- Two permitted answers are equal, and so are the buffers after them.
+pub one-answer : {d : def.Answered} {old n₁ n₂ : List ℤ} {r₁ r₂ : Answered} → Answers d old n₁ r₁ → Answers d old n₂ r₂ → (r₁ ≡ r₂) × (n₁ ≡ n₂)
+one-answer p q = (p .answer ∙ sym (q .answer), p .buffer ∙ sym (q .buffer))
+
 module _ (s : List ℕ) (limits : Limits) (extra at : ℕ) (old new : List ℤ) where
   pub body-open : {n p : ℕ} → Reads s (limits .literals) at old new (Closed n p) → endOfLine s p ≡ end.Missing → (r : Answered) → r ≡ refusedOf s 5 p n
       → Answers (def.body s limits (length old) extra at) old new r

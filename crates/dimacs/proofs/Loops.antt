@@ -1,6 +1,6 @@
 -- The laws of `loop` and `said`: one step, and then the loop from where it leads. No file but this one counts steps. Assumes nothing.
 use Prim.Native.Nat.{ℕ, zero, suc, _+_, _≤_, _<_}
-use mathlib.Core.List.{List, [], _∷_}
+use mathlib.Core.List.{List, [], _∷_, map}
 use mathlib.Core.Path.{_≡_, refl, ap, sym, _∙_, subst⁻¹}
 use native.Mathlib.Omega.{arith}
 use lib.ListN.{length}
@@ -125,3 +125,20 @@ module _ {S A : Type 0} (turn : S → Turn S A) (μ : S → ℕ) (lowers : (s : 
           → ((s′ : S) → μ s′ < μ s → P s′ (said turn n s′)) → P s (andOn t (said turn n))
       go (on a s′) l g k = g (said turn n s′) l (k s′ l)
       go (last a) l g k = g
+
+-- A turn carried over to other states and other answers.
+abbrev pub carried : {S T A B : Type 0} → (S → T) → (A → B) → Turn S A → Turn T B
+carried g h (on a s) = on (h a) (g s)
+carried g h (last a) = last (h a)
+
+-- Turns that are carried over say the answers carried over.
+pub said-carried : {S T A B : Type 0} (turn : S → Turn S A) (turn′ : T → Turn T B) (g : S → T) (h : A → B)
+    → ((s : S) → turn′ (g s) ≡ carried g h (turn s)) → (n : ℕ) (s : S) → said turn′ n (g s) ≡ map h (said turn n s)
+unfolding said
+said-carried turn turn′ g h same zero s = refl
+said-carried turn turn′ g h same (suc n) s =
+    said-on turn′ n (g s) ∙ rw (same s) (go (turn s) (λ s′. said-carried turn turn′ g h same n s′)) ∙ ap (map h) (sym (said-on turn n s))
+  where
+    go : (t : Turn _ _) → ((s′ : _) → said turn′ n (g s′) ≡ map h (said turn n s′)) → andOn (carried g h t) (said turn′ n) ≡ map h (andOn t (said turn n))
+    go (on a s′) k = ap (λ l. h a ∷ l) (k s′)
+    go (last a) k = refl

@@ -22,6 +22,10 @@ largest = 2 ^ 64 - 1
 abbrev pub longestWord : ℕ
 longestWord = 60
 
+-- The room for the literals of a clause where the caller lends no buffer.
+abbrev pub ownRoom : ℕ
+ownRoom = 1024
+
 -- The format of clauses that a number names. (3 names a log.)
 abbrev pub formatOf : ℕ → Option Format
 formatOf n = cond (eqb n 0) (some Plain) (cond (eqb n 1) (some Weighted) (cond (eqb n 2) (some Grouped) none))

@@ -10,6 +10,12 @@ pub const CEILING: u32 = 2147483647;
 // The largest count, weight or group.
 pub const LARGEST: u64 = 18446744073709551615;
 
+// The longest word that a refusal shows.
+pub const LONGEST_WORD: usize = 60;
+
+// The room for the literals of a clause where the caller lends no buffer.
+pub const ROOM: usize = 1024;
+
 // A text of clauses is plain, or each clause has a weight, or each has a group.
 pub enum Format {
     Plain,

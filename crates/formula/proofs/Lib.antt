@@ -1,0 +1,3 @@
+-- Laws about cursors and calls, which the proofs here and the tray's cite.
+pub mod Runs
+pub mod Words

@@ -1,2 +1,3 @@
--- What the cursors of the code mean.
+-- What the cursors and answers of the code mean.
 pub mod Cursors
+pub mod Whole

@@ -2,13 +2,15 @@
 //
 // `open` answers how the text opens, and a cursor. Each `next_clause` answers a clause, the end or a refusal, and the cursor to go on with.
 ghost use mathlib.Core.Path.{_≡_};
-ghost use Prim.Native.Nat.{_≤_};
+ghost use Prim.Native.Nat.{_≤_, _<_};
 ghost use lib.ListN.{length};
-ghost use Rattle.dimacs.specs.Names.{ceiling};
-ghost use Rattle.dimacs.specs.Header.{specified, groupLimit, limitsOf};
+ghost use Rattle.dimacs.specs.Names.{ceiling, ownRoom};
+ghost use Rattle.dimacs.specs.Tokens.{stoppedAt};
+ghost use Rattle.dimacs.specs.Header.{unlimited, specified, groupLimit, limitsOf};
 ghost use Rattle.dimacs.specs.Texts.{nextClause, oneMore};
 ghost use Rattle.clause.specs.Answers.{Answers};
 ghost use Rattle.formula.specs.Cursors.{openedAs, openedMode, opened, unknown, answerFrom, settledAs, Steps};
+ghost use Rattle.formula.specs.Whole.{WordEnds, outcomeFrom, outcomeOf};
 use clause::Answered;
 use clause::Next;
 use dimacs::CEILING;
@@ -17,9 +19,11 @@ use dimacs::Final;
 use dimacs::Format;
 use dimacs::Header;
 use dimacs::LARGEST;
+use dimacs::LONGEST_WORD;
 use dimacs::Limits;
 use dimacs::Mode;
 use dimacs::Opening;
+use dimacs::ROOM;
 use dimacs::Refusal;
 
 // Where a text is read: the next place, the limits, the clauses read, the format, and the final answer once there is one.
@@ -41,6 +45,17 @@ pub struct Opened {
 pub struct Stepped {
     pub answer: Next,
     pub cursor: Cursor,
+}
+
+// The limits where no count applies.
+fn no_limits() -> Limits
+    ensures { λ r. ⌜ r ≡ unlimited ⌝ }
+{
+    Limits {
+        literals: CEILING,
+        groups: LARGEST,
+        clauses: 0,
+    }
 }
 
 fn literal_limit(variables: u64) -> u32
@@ -73,11 +88,7 @@ fn limits_of(format: Format, mode: Mode, header: Header) -> Limits
     ensures { λ r. ⌜ r ≡ limitsOf format mode header ⌝ }
 {
     match mode {
-        Mode::Lenient => Limits {
-            literals: CEILING,
-            groups: LARGEST,
-            clauses: 0,
-        },
+        Mode::Lenient => no_limits(),
         Mode::Strict => Limits {
             literals: literal_limit(header.variables),
             groups: group_limit(format, header.third),
@@ -90,11 +101,6 @@ fn limits_of(format: Format, mode: Mode, header: Header) -> Limits
 pub fn open_as(text: &[u8], format: Format, mode: Mode) -> Opened
     ensures { λ r. ⌜ r ≡ openedAs format mode (now (text .entry)) ⌝ }
 {
-    let unlimited = Limits {
-        literals: CEILING,
-        groups: LARGEST,
-        clauses: 0,
-    };
     let opening = header::parse_header(text, format);
     match opening {
         Opening::Header(header, place) => Opened {
@@ -111,7 +117,7 @@ pub fn open_as(text: &[u8], format: Format, mode: Mode) -> Opened
             opening,
             cursor: Cursor {
                 place,
-                limits: unlimited,
+                limits: no_limits(),
                 count: 0,
                 format,
                 last: Final::Open,
@@ -121,7 +127,7 @@ pub fn open_as(text: &[u8], format: Format, mode: Mode) -> Opened
             opening,
             cursor: Cursor {
                 place: refusal.place,
-                limits: unlimited,
+                limits: no_limits(),
                 count: 0,
                 format,
                 last: Final::Refused(refusal),
@@ -142,11 +148,7 @@ fn opened_unknown() -> Opened
         opening: Opening::Refused(refusal),
         cursor: Cursor {
             place: 0,
-            limits: Limits {
-                literals: CEILING,
-                groups: LARGEST,
-                clauses: 0,
-            },
+            limits: no_limits(),
             count: 0,
             format: Format::Plain,
             last: Final::Refused(refusal),
@@ -268,4 +270,79 @@ impl Cursor {
         let a = self.answer(text, lits);
         self.settle(a)
     }
+}
+
+// Past the word at a place before the text's end.
+fn word_end(text: &[u8], at: usize) -> usize
+    requires { ⌜ at < length (now text) ⌝ }
+    ensures { λ r. ⌜ WordEnds (now (text .entry)) at r ⌝ }
+{
+    let mut i = at + 1;
+    while i < text.len() {
+        if LONGEST_WORD <= i - at {
+            return i;
+        }
+        if token::is_end_of_word(text, i) {
+            return i;
+        }
+        i += 1;
+    }
+    i
+}
+
+// The word a reader stopped at, as a part of the text: empty at a line end or the end of the text.
+pub fn stopped_at(text: &[u8], at: usize) -> &[u8]
+    ensures { λ r. ⌜ now r ≡ stoppedAt (now (text .entry)) at ⌝ }
+{
+    let n = text.len();
+    if n <= at {
+        return &text[n..n];
+    }
+    let line = token::interactive_newline(text, at);
+    if line == at {
+        let e = word_end(text, at);
+        return &text[at..e];
+    }
+    &text[at..at]
+}
+
+// What a whole text comes to: the refusal's number and place, or 0 and the text's length where it is read to its end.
+pub struct Outcome {
+    pub number: u8,
+    pub place: usize,
+}
+
+// The whole text from a cursor on, with room for 1,024 literals in a clause.
+fn read_on(text: &[u8], from: Cursor) -> Outcome
+    ensures { λ r. ⌜ r ≡ outcomeFrom (now (text .entry)) ownRoom from ⌝ }
+{
+    let mut lits = [0i32; ROOM];
+    let mut cursor = from;
+    loop {
+        let step = cursor.next_clause(text, &mut lits);
+        cursor = step.cursor;
+        let answer = step.answer;
+        match answer {
+            Next::Clause { extra: _, count: _ } => {}
+            Next::Ended => {
+                return Outcome {
+                    number: 0,
+                    place: text.len(),
+                };
+            }
+            Next::Refused { refusal, count: _ } => {
+                return Outcome {
+                    number: refusal.number,
+                    place: refusal.place,
+                };
+            }
+        }
+    }
+}
+
+// The whole text by the numbers of a format of clauses and a mode.
+pub fn read_text(text: &[u8], format: u8, mode: u8) -> Outcome
+    ensures { λ r. ⌜ r ≡ outcomeOf format mode (now (text .entry)) ⌝ }
+{
+    read_on(text, open(text, format, mode).cursor)
 }

@@ -1,0 +1,68 @@
+-- `formula::stopped_at` meets its contract: each part is the word. Assumes nothing.
+use mathlib.Core.Path.{sym, _∙_}
+use lib.ListN.{length}
+use Rattle.formula.proofs.Words.{word-part, line-part, end-part}
+use borrow.Author.Needs.{needs}
+use Rattle.formula.proofs.stopped_at.Statement.{statement}
+use Rattle.formula.proofs.stopped_at.Tie as tie
+
+sub-result : tie.Need-sub-result
+sub-result c = search needs
+
+part-result-start : tie.Need-part-result-start
+part-result-start c = search needs
+
+part-result-end : tie.Need-part-result-end
+part-result-end c = search needs
+
+returns : tie.Need-returns
+returns c = end-part _ _ (length (c .before .before .before .args .text .now)) (c .before .if1 .taken)
+
+interactive-newline-requires : tie.Need-interactive-newline-requires
+interactive-newline-requires c κs = search needs
+
+word-end-requires : tie.Need-word-end-requires
+word-end-requires c κs = search needs
+
+sub-result-2 : tie.Need-sub-result-2
+sub-result-2 c = search needs
+
+part-result-start-2 : tie.Need-part-result-start-2
+part-result-start-2 c = search needs
+
+part-result-end-2 : tie.Need-part-result-end-2
+part-result-end-2 c = search needs
+
+returns-2 : tie.Need-returns-2
+returns-2 c = word-part _ _ _ (c .before .word-end .ensures) (sym (c .before .before .before .interactive-newline .ensures) ∙ c .before .before .if2 .taken)
+
+sub-result-3 : tie.Need-sub-result-3
+sub-result-3 c = search needs
+
+part-result-start-3 : tie.Need-part-result-start-3
+part-result-start-3 c = search needs
+
+part-result-end-3 : tie.Need-part-result-end-3
+part-result-end-3 c = search needs
+
+returns-3 : tie.Need-returns-3
+returns-3 c = line-part _ _ (λ e. c .before .if2 .left (c .before .before .interactive-newline .ensures ∙ e))
+
+pub stopped-at-spec : {M : Type 1} → statement M
+stopped-at-spec =
+    tie.close
+    (tie.spec
+    sub-result
+    part-result-start
+    part-result-end
+    returns
+    interactive-newline-requires
+    word-end-requires
+    sub-result-2
+    part-result-start-2
+    part-result-end-2
+    returns-2
+    sub-result-3
+    part-result-start-3
+    part-result-end-3
+    returns-3)
