@@ -4,9 +4,9 @@ use mathlib.Core.Bool.{Bool, true, false, cond}
 use mathlib.Core.List.{List, [], _∷_, _++_}
 use mathlib.Core.Path.{_≡_, refl, ap, sym, _∙_, subst}
 use native.Mathlib.Omega.{arith}
-use borrow.Author.Tests.{leb-true}
+use borrow.Author.Tests.{leb-true, leb-false}
 use lib.Dec.{leb, eqb}
-use lib.ListN.{length}
+use lib.ListN.{length, length-append}
 use lib.IntN.{ℤ}
 use Rattle.dimacs.specs.Loop.{Step, again, answer}
 use Rattle.dimacs.specs.Names.{Reason, numbered, refusal, largest}
@@ -78,6 +78,33 @@ module _ (s : List ℕ) (limit room : ℕ) where
   literals-span at =
       kept (nextLiteral s limit room) (stopped (refusal s Reason.literalExpected 0) []) (left s) literals-falls (λ x. Spans s at (x .at))
       (LiteralsSpan s at) (literals-keep at) (length s + length s + 2) (reads at false []) (omega arith) (omega arith)
+
+-- No more literals are read than there is room for.
+abbrev pub LiteralsFit : ℕ → Literals → Type 0
+LiteralsFit room (closed so e) = length so ≤ room
+LiteralsFit room (stopped r so) = length so ≤ room
+
+module _ (s : List ℕ) (limit room : ℕ) where
+  fit-keep : (r : Reading) → length (r .so) ≤ room → Leads (λ x. length (x .so) ≤ room) (LiteralsFit room) (nextLiteral s limit room r)
+  unfolding nextLiteral
+  fit-keep r h = go (intAt s limit (r .at)) (r .fresh)
+    where
+      On : Step Reading Literals → Type 0
+      On = Leads (λ x. length (x .so) ≤ room) (LiteralsFit room)
+
+      go : (i : Int) (f : Bool) → On (onInt s limit room i (reads (r .at) f (r .so)))
+      go int.Missing true = h
+      go int.Missing false = chosen On (unmoved (r .at) (linebreaks s (r .at))) (λ _. h) (λ _. h)
+      go (int.Zero n) f = h
+      go (int.Literal v n) f =
+          chosen On (leb room (length (r .so))) (λ _. h) (λ e. omega (arith, leb-false room (length (r .so)) e, length-append (r .so) (v ∷ [])))
+      go int.TooBig f = h
+
+  pub literals-fit : (at : ℕ) → LiteralsFit room (literals s limit room at)
+  unfolding literals literalsFrom
+  literals-fit at =
+      kept (nextLiteral s limit room) (stopped (refusal s Reason.literalExpected 0) []) (left s) (literals-falls s limit room) (λ x. length (x .so) ≤ room)
+      (LiteralsFit room) fit-keep (length s + length s + 2) (reads at false []) (omega arith) (omega arith)
 
 -- How many clauses may still come.
 abbrev pub toCome : List ℕ → ℕ → ℕ
@@ -164,3 +191,52 @@ module _ (s : List ℕ) (limits : Limits) (room : ℕ) where
   clause-at-onward Weighted endPermitted at = marked-onward Reason.weightTooBig endPermitted at (uintAt s largest at) (uint-moves s largest at)
   clause-at-onward Grouped endPermitted at =
       marked-onward Reason.groupTooBig endPermitted at (bracedUintAt s (limits .groups) at) (braced-uint-moves s (limits .groups) at)
+
+-- So does a clause, and what is read before a refusal.
+abbrev pub AnswerFits : ℕ → Answer → Type 0
+AnswerFits room (clause extra so) = length so ≤ room
+AnswerFits room ended = Unit {0}
+AnswerFits room (refused r so) = length so ≤ room
+
+abbrev pub Fits : ℕ → Answered → Type 0
+Fits room d = AnswerFits room (d .answer)
+
+module _ (s : List ℕ) (limits : Limits) (room : ℕ) where
+  refuses-fits : (why : Reason) (at : ℕ) → Fits room (refuses s why at [])
+  refuses-fits why at = omega arith
+
+  pub no-clause-fits : (endPermitted : Bool) (at : ℕ) → Fits room (noClause s endPermitted at)
+  unfolding noClause
+  no-clause-fits endPermitted at =
+      chosen (Fits room) endPermitted
+      (λ _. chosen (Fits room) (atEnd s at) (λ _. tt) (λ _. refuses-fits Reason.clauseExpected at))
+      (λ _. refuses-fits Reason.clauseExpected at)
+
+  body-fits : (extra at : ℕ) → Fits room (body s limits room extra at)
+  unfolding body
+  body-fits extra at = go (literals s (limits .literals) room at) (literals-fit s (limits .literals) room at)
+    where
+      close : (so : List ℤ) (e : ℕ) → length so ≤ room → (x : EndOfLine) → Fits room (lineEnds x (says (clause extra so)) (refuses s Reason.lineEndExpected e so))
+      close so e h end.Missing = h
+      close so e h (end.Past n) = h
+
+      go : (l : Literals) → LiteralsFit room l → Fits room (clauseOf s extra l)
+      go (closed so e) h = close so e h (endOfLine s e)
+      go (stopped r so) h = h
+
+  owed-fits : (extra at : ℕ) → Fits room (owed s limits room extra at)
+  unfolding owed
+  owed-fits extra at =
+      let e = linebreaks s at in
+      number-stands (Fits room) (intAt s (limits .literals) e) (body-fits extra e) (refuses-fits Reason.literalsExpected e)
+
+  marked-fits : (big : Reason) (endPermitted : Bool) (at : ℕ) (u : Uint) → Fits room (marked s limits room big endPermitted at u)
+  marked-fits big endPermitted at uint.Missing = no-clause-fits endPermitted at
+  marked-fits big endPermitted at uint.TooBig = refuses-fits big at
+  marked-fits big endPermitted at (uint.Value extra e) = owed-fits extra e
+
+  pub clause-at-fits : (f : Format) (endPermitted : Bool) (at : ℕ) → Fits room (clauseAt s limits room f endPermitted at)
+  unfolding clauseAt plainAt weightedAt groupedAt
+  clause-at-fits Plain endPermitted at = number-stands (Fits room) (intAt s (limits .literals) at) (body-fits 0 at) (no-clause-fits endPermitted at)
+  clause-at-fits Weighted endPermitted at = marked-fits Reason.weightTooBig endPermitted at (uintAt s largest at)
+  clause-at-fits Grouped endPermitted at = marked-fits Reason.groupTooBig endPermitted at (bracedUintAt s (limits .groups) at)

@@ -31,7 +31,7 @@ use Rattle.dimacs.specs.declared.Final.the-variants as final
 use Rattle.dimacs.proofs.Loops.{andOn, Gives, Lowers, said-unrolled, said-has}
 use Rattle.dimacs.proofs.Tests.{chosen}
 use Rattle.dimacs.proofs.Spans.{Spans, then-spans, EndCloses, end-closes, blanks-spans, lines-spans, word-spans, UintMoves, uint-moves, UintWithin, uint-within}
-use Rattle.dimacs.proofs.Clauses.{toCome, Placed, Onward, back, no-clause-onward, clause-at-onward}
+use Rattle.dimacs.proofs.Clauses.{toCome, Placed, Onward, back, no-clause-onward, clause-at-onward, Fits, no-clause-fits, clause-at-fits}
 
 -- Where a text opens: the clauses begin, or the header is refused, within the text, and no more variables are counted than the ceiling.
 abbrev pub Opens : List ℕ → Opening → Type 0
@@ -150,6 +150,19 @@ module _ (s : List ℕ) (f : Format) (limits : Limits) (room : ℕ) where
       one n y (clause extra so) = λ l h k. record { clauses = suc (k .clauses); few = omega (arith, k .few); so = clause-then (k .so) }
       one n y ended = record { clauses = 0; few = omega arith; so = ends }
       one n y (refused r so) = record { clauses = 0; few = omega arith; so = stops }
+
+-- No answer has more literals than there is room for.
+pub answer-fits : (s : List ℕ) (f : Format) (limits : Limits) (room : ℕ) (c : Cursor) → Fits room (answerAt s f limits room c)
+unfolding answerAt nextClause
+answer-fits s f limits room c = go (c .final)
+  where
+    go : (x : Final) → Fits room (answerBy s f limits room c x)
+    go final.Open =
+        let e = lines s (blanks s (c .place)) in
+        chosen (Fits room) (eqb (limits .clauses) 0) (λ _. clause-at-fits s limits room f true e)
+        (λ _. chosen (Fits room) (leb (limits .clauses) (c .count)) (λ _. no-clause-fits s limits room true e) (λ _. clause-at-fits s limits room f false e))
+    go final.Ended = tt
+    go (final.Refused r) = omega arith
 
 -- An answer that is the end or a refusal is answered again from the cursor after it, the refusal with no literals, and that cursor stays.
 pub record Repeats (s : List ℕ) (f : Format) (limits : Limits) (room : ℕ) (c : Cursor) (again : Answered) : Type 0 where

@@ -20,14 +20,14 @@ use Rattle.dimacs.specs.declared.Opening.the-variants as opening
 use Rattle.dimacs.specs.declared.Final.{Final}
 use Rattle.dimacs.specs.declared.Final.the-variants as final
 use Rattle.dimacs.proofs.Loops.{andOn, carried, said-carried, said-unrolled}
-use Rattle.dimacs.proofs.Clauses.{toCome, Placed}
-use Rattle.dimacs.proofs.Texts.{next-clause-onward, answers-step}
+use Rattle.dimacs.proofs.Clauses.{toCome, Placed, AnswerFits}
+use Rattle.dimacs.proofs.Texts.{next-clause-onward, answers-step, answer-fits}
 use Rattle.clause.specs.Answers.{nextOf, answeredOf}
 use Rattle.clause.specs.declared.Next.{Next}
 use Rattle.clause.specs.declared.Next.the-variants as next
 use Rattle.formula.specs.declared.Cursor.{Cursor}
 use Rattle.formula.specs.declared.Stepped.{Stepped}
-use Rattle.formula.specs.Cursors.{cursorOf, openedBy, openedAs, openedByMode, openedByFormat, opened, settledBy, stepOf, Steps}
+use Rattle.formula.specs.Cursors.{stateOf, cursorOf, openedBy, openedAs, openedByMode, openedByFormat, opened, settledBy, stepOf, Steps}
 use Rattle.formula.specs.Whole.{readToEnd, refusedBy, outcomeBy, outcomeOfText, outcomeAs, outcomeOf, outcomeAt, outcomeFrom, Call, callBy, call, calls, callOf}
 
 -- Two permitted answers of a call are equal, and so are the buffers after them.
@@ -105,6 +105,22 @@ steps-lead s c old new r room l p {a} g =
     subst (Leads s room c (r .cursor)) g
     (subst (λ n. Leads s n c (r .cursor) (r .answer)) l
     (subst (λ x. Leads s (length old) c (x .cursor) (x .answer)) (sym (p .answer)) (leads s (length old) c)))
+
+-- The count of literals of a clause is at most the buffer's length.
+abbrev pub CountFits : ℕ → Next → Type 0
+CountFits room (next.Clause extra n) = n ≤ room
+CountFits room next.Ended = Unit {0}
+CountFits room (next.Refused r n) = n ≤ room
+
+pub steps-fit : (s : List ℕ) (c : Cursor) (old new : List ℤ) (r : Stepped) → Steps s c old new r → {a : Next} → r .answer ≡ a → CountFits (length old) a
+steps-fit s c old new r p g =
+    let d = texts.answerAt s (c .format) (c .limits) (length old) (stateOf c) in
+    subst (CountFits (length old)) (sym (ap (λ x. x .answer) (p .answer)) ∙ g) (go (d .answer) (answer-fits s (c .format) (c .limits) (length old) (stateOf c)))
+  where
+    go : (a : def.Answer) → AnswerFits (length old) a → CountFits (length old) (nextOf a)
+    go (def.clause extra so) h = h
+    go def.ended h = tt
+    go (def.refused q so) h = h
 
 -- Opening leaves at most (n + 1) / 2 clauses to come.
 pub opened-few : (f m : ℕ) (s : List ℕ) → toCome s (opened f m s .cursor .place) ≤ (length s + 1) / 2
