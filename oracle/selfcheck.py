@@ -1,0 +1,206 @@
+#!/usr/bin/env python3
+"""Holds the oracle's answers against those written out by hand.
+
+The texts are those of document 01 ("Texts on both sides", the listing, the slips), those of
+READINGS.md, and some about frames, rooms and words. Prints `N checks, M wrong`.
+
+Usage: selfcheck.py [PROGRAM]   (by default the oracle as cargo builds it beside this file)
+"""
+
+import os
+import struct
+import subprocess
+import sys
+
+PLAIN, WEIGHTED, GROUPED, LOG = range(4)
+STRICT, LENIENT = range(2)
+
+CASES = []
+
+
+def case(text, *lines, format=PLAIN, mode=STRICT, room=4096):
+    """One case and the lines that must follow its `case N`."""
+    CASES.append((format, mode, room, text, lines))
+
+
+def refused(number, place, k=0, word=b""):
+    return " ".join(["refused", str(number), str(place), str(k)] + [word.hex()] * bool(word))
+
+
+NONE = "header none"
+NINES = b"9" * 30
+
+# Document 01, "Texts on both sides".
+case(b"", NONE, "end")
+case(b"0", NONE, "clause", "end")
+case(b"1 0 2 0\n", NONE, refused(5, 4, 1, b"2"))
+case(b"1 0\r", NONE, refused(5, 3, 1, b"\r"))
+case(b"p cnf 0 0\n7 0\n", "header 0 0", "clause 7", "end")
+case(b"p cnf 2 1\n3 0\n", "header 2 1", refused(15, 10, 0, b"3"))
+case(b"2147483647 0", NONE, "clause 2147483647", "end")
+case(b"-2147483647 0", NONE, "clause -2147483647", "end")
+case(b"-2147483648 0", NONE, refused(15, 0, 0, b"-2147483648"))
+case(b"2147483648 0", NONE, refused(15, 0, 0, b"2147483648"))
+case(b"p cnf 2 2\n1 0\n", "header 2 2", "clause 1", refused(9, 14))
+case(b"p cnf 2 1\n1 0\n2 0\n", "header 2 1", "clause 1", refused(9, 14, 0, b"2"))
+case(b"1 2", NONE, refused(6, 3, 2))
+case(b"1 \nx", NONE, refused(7, 3, 1, b"x"))
+case(b"p cnf\n", refused(2, 5))
+case(b"pcnf 1 1\n", NONE, refused(9, 0, 0, b"pcnf"))
+case(b"1 2 3 0", NONE, refused(16, 4, 2, b"3"), room=2)
+case(
+    b"p gcnf 2 2 1\n{0} 1 0\n{2} 2 0\n",
+    "header 2 2 1",
+    "clause {0}: 1",
+    refused(14, 21, 0, b"{2}"),
+    format=GROUPED,
+)
+case(b"5\n", NONE, refused(8, 2), format=WEIGHTED)
+case(b"s SATISFIABLE \n", refused(5, 13, 0, b" "), format=LOG)
+case(b"v 1 -2\n", refused(19, 7, 2), format=LOG)
+case(b"s UNKNOWN\ns SATISFIABLE\n", refused(18, 10, 0, b"s"), format=LOG)
+case(b"s UNKNOWN\ns SATISFIABLE\n", "verdict unknown", "literals", format=LOG, mode=LENIENT)
+
+# Document 01, the listing.
+case(
+    b"c pull 7\np cnf 3 2\n1 -3 0\n-2\n0\n",
+    "header 3 2",
+    "clause 1 -3",
+    "clause -2",
+    "end",
+)
+
+# Document 01, the slips: a clause count of 0, and a number that runs into a letter.
+case(b"p cnf 2 0\n1 0\n2 0\n", "header 2 0", "clause 1", "clause 2", "end")
+case(b"99999999999999999999x", NONE, refused(9, 0, 0, b"99999999999999999999x"))
+
+# READINGS.md, row by row.
+case(b"v  ", refused(19, 3), format=LOG)
+case(b"s  UNKNOWN", refused(17, 2, 0, b" UNKNOWN"), format=LOG)
+case(b"v x", refused(5, 2, 0, b"x"), format=LOG)
+case(b"v 1\nv 2 0", refused(16, 6, 1, b"2"), format=LOG, room=1)
+case(b"v 1\nv 2 0", "verdict unknown", "literals 1 2", format=LOG, room=2)
+case(b"v 1 0\nx", refused(18, 6, 1, b"x"), format=LOG)
+case(b"p cnf 1 1 1\n", refused(5, 10, 0, b"1"))
+case(b"{1} ", NONE, refused(8, 4), format=GROUPED)
+case(b"\r", NONE, refused(9, 0, 0, b"\r"))
+case(b"1\r0", NONE, refused(6, 1, 1, b"\r0"))
+case(b"p gcnf 0 0 1\n{2}3 0", "header 0 0 1", refused(14, 13, 0, b"{2}3"), format=GROUPED)
+case(b"5\n1\n", NONE, refused(7, 4, 1), format=WEIGHTED)
+case(b"5 1\n", NONE, refused(7, 4, 1), format=WEIGHTED)
+case(b"5 1", NONE, refused(6, 3, 1), format=WEIGHTED)
+case(b"5x 1 0", NONE, refused(9, 0, 0, b"5x"), format=WEIGHTED)
+case(b"{}1 0", NONE, refused(9, 0, 0, b"{}1"), format=GROUPED)
+case(b"p cnf 1 1", "header 1 1", refused(9, 9))
+case(b"p cnf 1 1\nc", "header 1 1", refused(9, 11))
+case(b"s SATISFIABLEx", refused(5, 13, 0, b"x"), format=LOG)
+case(b"c\t", refused(18, 0, 0, b"c"), format=LOG)
+case(b"c\t", "verdict unknown", "literals", format=LOG, mode=LENIENT)
+case(NINES + b" 0", NONE, refused(15, 0, 0, NINES))
+case(b"p cnf " + NINES + b" 1\n", refused(10, 6, 0, NINES))
+case(b"p cnf 2147483648 1\n", refused(10, 6, 0, b"2147483648"))
+case(b"p cnf 2147483647 1\n", "header 2147483647 1", refused(9, 19))
+case(b"{" + NINES + b"}0", NONE, refused(14, 0, 0, b"{" + NINES + b"}0"), format=GROUPED)
+case(
+    b"p wcnf 1 1 1\n1 1 0\n99999999999999999999 1 0",
+    "header 1 1 1",
+    "clause 1: 1",
+    refused(9, 19, 0, b"99999999999999999999"),
+    format=WEIGHTED,
+)
+case(b"v ", refused(19, 2), format=LOG)
+case(b"0\r", NONE, refused(5, 1, 0, b"\r"))
+case(b"c\r0", NONE, "end")
+case(b"c0", NONE, "end")
+
+# Every refusal number of a reading that has not come up yet, and the lenient mode of clauses.
+case(b"p x", refused(1, 2, 0, b"x"))
+case(b"p cnf 1 x", refused(3, 8, 0, b"x"))
+case(b"p wcnf 1 1\r\n", refused(4, 10), format=WEIGHTED)
+case(b"p gcnf 1 1 -1", refused(4, 11, 0, b"-1"), format=GROUPED)
+case(b"p cnf 1 18446744073709551616", refused(11, 8, 0, b"18446744073709551616"))
+case(b"p cnf 0 18446744073709551615", "header 0 18446744073709551615", refused(9, 28))
+case(b"p wcnf 1 1 18446744073709551616", refused(12, 11, 0, b"18446744073709551616"), format=WEIGHTED)
+case(b"18446744073709551616 0", NONE, refused(13, 0, 0, b"18446744073709551616"), format=WEIGHTED)
+case(b"018446744073709551615 0", NONE, "clause 18446744073709551615:", "end", format=WEIGHTED)
+case(b"{18446744073709551615}-1 0", NONE, "clause {18446744073709551615}: -1", "end", format=GROUPED)
+case(b"{0}0\n{00} -0", NONE, "clause {0}:", "clause {0}:", "end", format=GROUPED)
+case(b"p cnf 1 1\n2 0\n3 0\n", "header 1 1", "clause 2", "clause 3", "end", mode=LENIENT)
+case(b"p cnf 1 9\n", "header 1 9", "end", mode=LENIENT)
+case(b"1\n c\n\n c x\n 2 0", NONE, "clause 1 2", "end")
+case(b"1 c\n0", NONE, refused(6, 2, 1, b"c"))
+case(b"+1 0", NONE, refused(9, 0, 0, b"+1"))
+case(b"s UNSATISFIABLE\r\nv 0", "verdict no", "literals", format=LOG)
+case(b"s SATISFIABLE\nv 1\nc x\nv -2 0\n", "verdict yes", "literals 1 -2", format=LOG)
+case(b"v 0\nv 1 0\n", refused(18, 4, 0, b"v"), format=LOG)
+case(b"v 0\nv 1 0\n", "verdict unknown", "literals", format=LOG, mode=LENIENT)
+
+# Room: a literal's range comes before it, zero needs none, and each clause has its own.
+case(b"1 0\n2 0\n", NONE, "clause 1", "clause 2", "end", room=1)
+case(b"0\n1 0", NONE, "clause", refused(16, 2, 0, b"1"), room=0)
+case(b"1 2147483648", NONE, refused(15, 2, 1, b"2147483648"), room=1)
+case(b"1 2 x", NONE, refused(16, 2, 1, b"2"), room=1)
+case(b"1 2x", NONE, refused(6, 2, 1, b"2x"), room=1)
+case(b"1 " * 4097, NONE, refused(16, 8192, 4096, b"1"), room=2**32 - 1)
+
+# The word: 60 bytes at most, and bytes that are no letters.
+case(b"x" * 61, NONE, refused(9, 0, 0, b"x" * 60))
+case(b"\xff\x00\t", NONE, refused(9, 0, 0, b"\xff\x00"))
+
+# Unknown formats and modes.
+case(b"1 0", refused(26, 0), format=4)
+case(b"1 0", refused(26, 0), mode=2)
+case(b"", refused(26, 0), format=255, mode=255)
+
+# The longest text, and one that is too long.
+case(b"\n" * 65536, NONE, "end")
+case(b"\n" * 65537, "long")
+case(b"", NONE, "end")
+
+
+def frame(format, mode, room, text):
+    return struct.pack("<BBII", format, mode, room, len(text)) + text
+
+
+def run(program, frames):
+    return subprocess.run([program], input=frames, stdout=subprocess.PIPE, check=True).stdout
+
+
+def main():
+    here = os.path.dirname(os.path.abspath(__file__))
+    target = os.environ.get("CARGO_TARGET_DIR", os.path.join(here, "target"))
+    program = sys.argv[1] if len(sys.argv) > 1 else os.path.join(target, "release", "oracle")
+
+    checks = wrong = 0
+
+    def check(what, got, expected):
+        nonlocal checks, wrong
+        checks += 1
+        if got != expected:
+            wrong += 1
+            print(f"{what}\n  expected {expected}\n  got      {got}")
+
+    frames = b"".join(frame(*one[:4]) for one in CASES)
+    answers = run(program, frames).decode().split("case ")[1:]
+    check("the number of cases", len(answers), len(CASES))
+    for number, ((*_, lines), answer) in enumerate(zip(CASES, answers)):
+        format, mode, room, text, _ = CASES[number]
+        shown = f"format {format}, mode {mode}, room {room}, text {text[:80]!r}"
+        check(shown, answer.splitlines(), [str(number), *lines])
+
+    # A frame that standard input cuts off.
+    whole = frame(PLAIN, STRICT, 4096, b"1 0\n")
+    said = b"case 0\nheader none\nclause 1\nend\n"
+    check("nothing at all", run(program, b""), b"")
+    check("a whole frame", run(program, whole), said)
+    for length in range(1, len(whole)):
+        check(f"{length} bytes of a frame", run(program, whole + whole[:length]), said + b"case 1\ncut\n")
+    long = frame(PLAIN, STRICT, 4096, b"\n" * 65537)
+    check("a long text cut off", run(program, long[:-1]), b"case 0\nlong\ncut\n")
+
+    print(f"{checks} checks, {wrong} wrong")
+    return 1 if wrong else 0
+
+
+if __name__ == "__main__":
+    sys.exit(main())
