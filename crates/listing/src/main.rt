@@ -1,5 +1,6 @@
 // Lists a strict plain text from standard input: its header, its clauses, and how it ends.
 use clause::Next;
+use dimacs::Header;
 use dimacs::Opening;
 use dimacs::Refusal;
 use formula::Cursor;
@@ -27,6 +28,13 @@ fn literals(lits: &[i32]) {
     for i in 0..lits.len() {
         literal(lits[i]);
     }
+}
+
+fn header_line(h: Header) {
+    word(b"header");
+    number(h.variables);
+    number(h.clauses);
+    word(b"\n");
 }
 
 fn clause_line(lits: &[i32]) {
@@ -65,12 +73,7 @@ fn list(text: &[u8]) {
     let opened = formula::open(text, 0, 0);
     let opening = opened.opening;
     match opening {
-        Opening::Header(header, _) => {
-            word(b"header");
-            number(header.variables);
-            number(header.clauses);
-            word(b"\n");
-        }
+        Opening::Header(header, _) => header_line(header),
         Opening::NoHeader(_) => word(b"header none\n"),
         Opening::Refused(_) => {}
     }

@@ -1,0 +1,50 @@
+#!/usr/bin/env python3
+"""Writes frames with each number of each format at its limit and beside it.
+
+Usage: limits.py >FRAMES
+
+Each number of a text has a place, marked # below. It is given every value around every limit, with and
+without leading zeros, followed by a blank or by a letter, in both modes. Rooms go from one literal too few
+to one more than is needed.
+"""
+
+import sys
+
+from framed import FRAME
+
+CEILING = 2147483647
+LARGEST = 18446744073709551615
+
+# Texts of a format, by its number, with one number left out of each.
+TEXTS = {
+    0: ["p cnf # 1\n1 0\n", "p cnf 3 #\n1 0\n", "p cnf 3 1\n# 0\n", "p cnf 0 1\n-# 0\n", "# 0\n", "-# 0\n"],
+    1: ["p wcnf # 1 9\n1 1 0\n", "p wcnf 3 # 9\n1 1 0\n", "p wcnf 3 1 #\n1 1 0\n", "p wcnf 3 1 9\n# 1 0\n", "p wcnf 3 1 9\n1 # 0\n",
+        "p wcnf 0 1 9\n1 -# 0\n", "# 1 0\n", "1 # 0\n"],
+    2: ["p gcnf # 1 2\n{1} 1 0\n", "p gcnf 3 # 2\n{1} 1 0\n", "p gcnf 3 1 #\n{1} 1 0\n", "p gcnf 3 1 2\n{#} 1 0\n",
+        "p gcnf 3 1 2\n{1} # 0\n", "p gcnf 0 1 0\n{#} 1 0\n", "p gcnf 0 1 0\n{1} -# 0\n", "{#} 1 0\n", "{1} # 0\n"],
+    3: ["s SATISFIABLE\nv # 0\n", "s SATISFIABLE\nv -# 0\n", "v 1 #\nv 0\n"],
+}
+
+VALUES = [0, 1, 2, 3, 4, CEILING - 1, CEILING, CEILING + 1, 2 * CEILING + 1, 2 * CEILING + 2, LARGEST - 1, LARGEST, LARGEST + 1, 10 * LARGEST, 10**30]
+
+# Texts of three literals, for room.
+ROOMS = {0: "1 -2 3 0\n", 1: "7 1 -2 3 0\n", 2: "{7} 1 -2 3 0\n", 3: "v 1 -2\nv 3 0\n"}
+
+
+def write(format, mode, room, text):
+    text = text.encode()
+    sys.stdout.buffer.write(FRAME.pack(format, mode, room, len(text)) + text)
+
+
+for mode in 0, 1:
+    for format, texts in TEXTS.items():
+        for text in texts:
+            for value in VALUES:
+                write(format, mode, 8, text.replace("#", str(value)))
+            for number in "0" * 30 + "1", "0" + str(CEILING), "0" + str(LARGEST), "0" * 30 + str(LARGEST + 1), str(CEILING) + "x", str(10**30) + "x":
+                write(format, mode, 8, text.replace("#", number))
+        for room in range(5):
+            write(format, mode, room, ROOMS[format])
+            write(format, mode, room, ROOMS[format].replace("3", str(CEILING + 1)))
+for format, mode in (4, 0), (255, 1), (0, 2), (3, 255):
+    write(format, mode, 8, "1 0\n")
