@@ -12,4 +12,5 @@ pub mod Clauses
 pub mod Literals
 pub mod Texts
 pub mod Logs
+pub mod Values
 pub mod Writing

@@ -6,17 +6,21 @@ use mathlib.Core.Path.{_≡_, refl}
 use native.Mathlib.Omega.{arith}
 use borrow.Author.Tests.{leb-false}
 use lib.Dec.{leb}
-use lib.ListN.{length}
+use lib.ListN.{length, length-append}
 use lib.IntN.{ℤ}
 use Rattle.dimacs.specs.Loop.{Step, again, answer}
 use Rattle.dimacs.specs.Bytes.{bytes}
 use Rattle.dimacs.specs.Names.{Reason, numbered, refusal, ceiling}
 use Rattle.dimacs.specs.Tokens.{unmoved, atEnd, blanks, nextLine, fixed, strictComment, intAt, endOfLine, lineEnds}
-use Rattle.dimacs.specs.Logs.{LogAnswer, accepted, refusedLog, Assignment, unbegun, begun, closed, Solution, unsaid, Log, logAt, isClosed, isSaid, Values, values, stopped, Row, onValue, nextValue, valuesFrom, lineRead, valuesRead, valueLine, solutionIs, solutionLine, logEnd, otherLine, logLine, logFrom, log}
+use Rattle.dimacs.specs.Logs.{LogAnswer, accepted, refusedLog, Log, logAt, isClosed, isSaid, Values, values, stopped, Row, rowAt, onValue, nextValue, valuesFrom, lineRead, valuesRead, valueLine, solutionIs, solutionLine, logEnd, otherLine, logLine, logFrom, log}
 use Rattle.dimacs.specs.declared.Mode.{Mode}
 use Rattle.dimacs.specs.declared.Mode.the-variants.{Strict, Lenient}
 use Rattle.dimacs.specs.declared.Verdict.{Verdict}
 use Rattle.dimacs.specs.declared.Verdict.the-variants.{Yes, No, Unknown}
+use Rattle.dimacs.specs.declared.Solution.{Solution}
+use Rattle.dimacs.specs.declared.Solution.the-variants.{Unsaid}
+use Rattle.dimacs.specs.declared.Assignment.{Assignment}
+use Rattle.dimacs.specs.declared.Assignment.the-variants.{Unbegun, Begun, Closed}
 use Rattle.dimacs.specs.declared.Int.{Int}
 use Rattle.dimacs.specs.declared.Int.the-variants as int
 use Rattle.dimacs.specs.declared.EndOfLine.{EndOfLine}
@@ -29,6 +33,15 @@ use Rattle.dimacs.proofs.Spans.{Spans, then-spans, Moves, moves, then-m
 abbrev pub ValuesSpan : List ℕ → ℕ → Values → Type 0
 ValuesSpan s at (values e a so) = Spans s at e
 ValuesSpan s at (stopped r so) = Spans s at (r .place)
+
+-- Literals are added, and only while there is room.
+pub record Grown (room : ℕ) (so more : List ℤ) : Type 0 where
+  pub on : length so ≤ length more
+  pub within : length more ≤ max room (length so)
+
+abbrev pub ValuesGrow : ℕ → List ℤ → Values → Type 0
+ValuesGrow room so (values at a more) = Grown room so more
+ValuesGrow room so (stopped r more) = Grown room so more
 
 -- A line leads to a later place within the text, or to an answer whose refusal is within reach.
 abbrev pub LogSpans : List ℕ → ℕ → LogAnswer → Type 0
@@ -55,7 +68,7 @@ module _ (s : List ℕ) (room : ℕ) where
   -- One value, and then the rest of them.
   pub values-step : (r : Row) → valuesFrom s room r ≡ after (nextValue s room r) (valuesFrom s room)
   unfolding valuesFrom rest
-  values-step r = unrolled (nextValue s room) (values 0 begun []) rest values-falls (suc (length s)) r (omega arith)
+  values-step r = unrolled (nextValue s room) (values 0 Begun []) rest values-falls (suc (length s)) r (omega arith)
 
   values-keep : (at : ℕ) (r : Row) → Spans s at (r .at) → Leads (λ x. Spans s at (x .at)) (ValuesSpan s at) (nextValue s room r)
   unfolding nextValue numbered
@@ -73,7 +86,28 @@ module _ (s : List ℕ) (room : ℕ) where
   pub values-span : (r : Row) → ValuesSpan s (r .at) (valuesFrom s room r)
   unfolding valuesFrom rest
   values-span r =
-      kept (nextValue s room) (values 0 begun []) rest values-falls (λ x. Spans s (r .at) (x .at)) (ValuesSpan s (r .at)) (values-keep (r .at))
+      kept (nextValue s room) (values 0 Begun []) rest values-falls (λ x. Spans s (r .at) (x .at)) (ValuesSpan s (r .at)) (values-keep (r .at))
+      (suc (length s)) r (omega arith) (omega arith)
+
+  grows-on : (so : List ℤ) (r : Row) → Grown room so (r .so) → Leads (λ x. Grown room so (x .so)) (ValuesGrow room so) (nextValue s room r)
+  unfolding nextValue
+  grows-on so r h = go (intAt s ceiling (r .at))
+    where
+      On : Step Row Values → Type 0
+      On = Leads (λ x. Grown room so (x .so)) (ValuesGrow room so)
+
+      go : (i : Int) → On (onValue s room i (r .at) (r .so))
+      go int.Missing = h
+      go (int.Zero n) = h
+      go (int.Literal v n) =
+          chosen On (leb room (length (r .so))) (λ _. h)
+          (λ e. let l = leb-false room (length (r .so)) e in omega (arith, length-append (r .so) (v ∷ [])))
+      go int.TooBig = h
+
+  pub values-grow : (r : Row) → ValuesGrow room (r .so) (valuesFrom s room r)
+  unfolding valuesFrom rest
+  values-grow r =
+      kept (nextValue s room) (values 0 Begun []) rest values-falls (λ x. Grown room (r .so) (x .so)) (ValuesGrow room (r .so)) (grows-on (r .so))
       (suc (length s)) r (omega arith) (omega arith)
 
   -- A line that is read from a place past its first bytes.
@@ -89,7 +123,7 @@ module _ (s : List ℕ) (room : ℕ) where
   value-line-leads : (at e : ℕ) (l : Log) → Moves s at e → LineLeads s at (valueLine s room e l)
   unfolding valueLine
   value-line-leads at e l m =
-      let r : Row = record { at = blanks s e; so = l .so } in
+      let r : Row = rowAt (blanks s e) (l .so) in
       go (valuesFrom s room r) (values-span r)
     where
       k : Moves s at (blanks s e)
@@ -115,9 +149,9 @@ module _ (s : List ℕ) (room : ℕ) where
 
   log-end-spans : (at : ℕ) (solution : Solution) (so : List ℤ) (a : Assignment) → LogSpans s at (logEnd s at solution so a)
   unfolding numbered
-  log-end-spans at solution so unbegun = tt
-  log-end-spans at solution so begun = omega arith
-  log-end-spans at solution so closed = tt
+  log-end-spans at solution so Unbegun = tt
+  log-end-spans at solution so Begun = omega arith
+  log-end-spans at solution so Closed = tt
 
   other-line-leads : (mode : Mode) (l : Log) → l .at < length s → LineLeads s (l .at) (otherLine s mode l)
   unfolding numbered
@@ -163,7 +197,7 @@ module _ (s : List ℕ) (mode : Mode) (room : ℕ) where
   unfolding log logFrom rest-of
   log-spans =
       kept (logLine s mode room) (accepted Unknown []) rest-of log-falls (λ l. Spans s 0 (l .at)) (LogSpans s 0)
-      (λ l h. go (l .at) h (logLine s mode room l) (log-line-leads l)) (suc (length s)) (logAt 0 unsaid unbegun []) (omega arith) (omega arith)
+      (λ l h. go (l .at) h (logLine s mode room l) (log-line-leads l)) (suc (length s)) (logAt 0 Unsaid Unbegun []) (omega arith) (omega arith)
     where
       to : (at : ℕ) → Spans s 0 at → (a : LogAnswer) → LogSpans s at a → LogSpans s 0 a
       to at h (accepted v so) k = tt

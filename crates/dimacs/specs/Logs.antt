@@ -14,6 +14,10 @@ use Rattle.dimacs.specs.declared.Mode.the-variants.{Strict, Lenient}
 use Rattle.dimacs.specs.declared.Refusal.{Refusal}
 use Rattle.dimacs.specs.declared.Verdict.{Verdict}
 use Rattle.dimacs.specs.declared.Verdict.the-variants.{Yes, No, Unknown}
+use Rattle.dimacs.specs.declared.Solution.{Solution}
+use Rattle.dimacs.specs.declared.Solution.the-variants.{Unsaid, Said}
+use Rattle.dimacs.specs.declared.Assignment.{Assignment}
+use Rattle.dimacs.specs.declared.Assignment.the-variants.{Unbegun, Begun, Closed}
 use Rattle.dimacs.specs.declared.Int.{Int}
 use Rattle.dimacs.specs.declared.Int.the-variants as int
 
@@ -21,15 +25,6 @@ use Rattle.dimacs.specs.declared.Int.the-variants as int
 pub data LogAnswer : Type 0 where
   accepted : Verdict → List ℤ → LogAnswer
   refusedLog : Refusal → List ℤ → LogAnswer
-
--- The assignment has no line yet, or waits for its 0, or is closed by it.
-pub data Assignment : Type 0 where
-  unbegun begun closed : Assignment
-
--- The solution line has not come, or said a verdict.
-pub data Solution : Type 0 where
-  unsaid : Solution
-  said : Verdict → Solution
 
 -- Reading a log: the place, the solution, the assignment and its literals so far.
 pub record Log : Type 0 where
@@ -44,19 +39,19 @@ logAt at solution assignment so = record { at = at; solution = solution; assignm
 
 -- The 0 has closed the assignment.
 abbrev pub isClosed : Assignment → Bool
-isClosed unbegun = false
-isClosed begun = false
-isClosed closed = true
+isClosed Unbegun = false
+isClosed Begun = false
+isClosed Closed = true
 
 -- The solution line has come.
 abbrev pub isSaid : Solution → Bool
-isSaid unsaid = false
-isSaid (said v) = true
+isSaid Unsaid = false
+isSaid (Said v) = true
 
 -- No solution line gives unknown.
 abbrev pub verdictOf : Solution → Verdict
-verdictOf unsaid = Unknown
-verdictOf (said v) = v
+verdictOf Unsaid = Unknown
+verdictOf (Said v) = v
 
 -- The literals of a value line: where they end, whether by the 0, and all literals so far; or a refusal.
 pub data Values : Type 0 where
@@ -68,14 +63,17 @@ pub record Row : Type 0 where
   pub at : ℕ
   pub so : List ℤ
 
+abbrev pub rowAt : ℕ → List ℤ → Row
+rowAt at so = record { at = at; so = so }
+
 module _ (s : List ℕ) (room : ℕ) where
   -- By the number at the place: the 0 closes, a literal beyond the ceiling or without room is refused, another is read, and without one the line ends.
   abbrev pub onValue : Int → ℕ → List ℤ → Step Row Values
-  onValue int.Missing at so = answer (values at begun so)
-  onValue (int.Zero next) at so = answer (values next closed so)
+  onValue int.Missing at so = answer (values at Begun so)
+  onValue (int.Zero next) at so = answer (values next Closed so)
   onValue int.TooBig at so = answer (stopped (refusal s Reason.literalTooBig at) so)
   onValue (int.Literal v next) at so =
-      cond (leb room (length so)) (answer (stopped (refusal s Reason.bufferFull at) so)) (again (record { at = next; so = so ++ (v ∷ []) }))
+      cond (leb room (length so)) (answer (stopped (refusal s Reason.bufferFull at) so)) (again (rowAt next (so ++ (v ∷ []))))
 
   -- One number.
   unfoldable pub nextValue : Row → Step Row Values
@@ -83,7 +81,7 @@ module _ (s : List ℕ) (room : ℕ) where
 
   -- The literals of a line from a place on.
   unfoldable pub valuesFrom : Row → Values
-  valuesFrom = loop nextValue (values 0 begun []) (suc (length s))
+  valuesFrom = loop nextValue (values 0 Begun []) (suc (length s))
 
 module _ (s : List ℕ) where
   -- A value line or solution line is read: a line end or the end of the text must follow.
@@ -99,7 +97,7 @@ module _ (s : List ℕ) where
   -- A verdict by its word, or what follows where that does not stand.
   abbrev pub solutionIs : Verdict → List ℕ → ℕ → Log → Step Log LogAnswer → Step Log LogAnswer
   solutionIs v w at r otherwise =
-      let e = fixed s w at in cond (unmoved at e) otherwise (lineRead e (said v) (r .assignment) (r .so))
+      let e = fixed s w at in cond (unmoved at e) otherwise (lineRead e (Said v) (r .assignment) (r .so))
 
   -- After `s `, one of three words and at once a line end or the end of the text.
   unfoldable pub solutionLine : ℕ → Log → Step Log LogAnswer
@@ -111,9 +109,9 @@ module _ (s : List ℕ) where
 
   -- The end of the text may not come while the assignment is open.
   abbrev pub logEnd : ℕ → Solution → List ℤ → Assignment → LogAnswer
-  logEnd at solution so unbegun = accepted (verdictOf solution) so
-  logEnd at solution so begun = refusedLog (refusal s Reason.assignmentOpen at) so
-  logEnd at solution so closed = accepted (verdictOf solution) so
+  logEnd at solution so Unbegun = accepted (verdictOf solution) so
+  logEnd at solution so Begun = refusedLog (refusal s Reason.assignmentOpen at) so
+  logEnd at solution so Closed = accepted (verdictOf solution) so
 
   -- A line of no permitted kind is refused, or skipped in the lenient mode.
   abbrev pub otherLine : Mode → Log → Step Log LogAnswer
@@ -123,7 +121,7 @@ module _ (s : List ℕ) where
 module _ (s : List ℕ) (room : ℕ) where
   -- After `v `, blanks, and literals up to the line's end or the closing 0.
   unfoldable pub valueLine : ℕ → Log → Step Log LogAnswer
-  valueLine at r = valuesRead s (r .solution) (valuesFrom s room (record { at = blanks s at; so = r .so }))
+  valueLine at r = valuesRead s (r .solution) (valuesFrom s room (rowAt (blanks s at) (r .so)))
 
 module _ (s : List ℕ) (mode : Mode) (room : ℕ) where
   -- A comment is skipped. Else in this order: `v ` while no 0 has closed the assignment; `s ` if no solution line came; the end of
@@ -148,4 +146,4 @@ module _ (s : List ℕ) (mode : Mode) (room : ℕ) where
 
   -- The log s, read in a mode with room for so many literals in all.
   unfoldable pub log : LogAnswer
-  log = logFrom (logAt 0 unsaid unbegun [])
+  log = logFrom (logAt 0 Unsaid Unbegun [])

@@ -165,3 +165,16 @@ pub enum Verdict {
     No,
     Unknown,
 }
+
+// What a log said of its formula: no solution line came, or it said a verdict.
+pub enum Solution {
+    Unsaid,
+    Said(Verdict),
+}
+
+// A log's assignment has no line yet, or waits for its 0, or is closed by it.
+pub enum Assignment {
+    Unbegun,
+    Begun,
+    Closed,
+}

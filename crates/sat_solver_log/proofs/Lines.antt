@@ -1,0 +1,194 @@
+-- The kinds of line of a log, a law for each; and the literals that each leaves. Assumes nothing.
+use Prim.Native.Nat.{ℕ, _≤_}
+use mathlib.Core.Bool.{Bool, true, false, cond, _||_}
+use mathlib.Core.List.{List}
+use mathlib.Core.Path.{_≡_, refl, ap, sym, _∙_, subst⁻¹}
+use native.Mathlib.Omega.{arith}
+use borrow.Author.Tests.{eq-eqb, ne-eqb}
+use lib.Dec.{eqb}
+use lib.ListN.{length, take}
+use lib.Seq.{length-take-le}
+use lib.IntN.{ℤ}
+use Rattle.dimacs.specs.Loop.{Step, again, answer}
+use Rattle.dimacs.specs.Bytes.{bytes}
+use Rattle.dimacs.specs.Names.{Reason, refusal}
+use Rattle.dimacs.specs.Tokens.{unmoved, atEnd, blanks, fixed, strictComment}
+use Rattle.dimacs.specs.Logs as def
+use Rattle.dimacs.specs.declared.Mode.{Mode}
+use Rattle.dimacs.specs.declared.Mode.the-variants.{Strict, Lenient}
+use Rattle.dimacs.specs.declared.Solution.{Solution}
+use Rattle.dimacs.specs.declared.Solution.the-variants.{Said}
+use Rattle.dimacs.specs.declared.Assignment.{Assignment}
+use Rattle.dimacs.specs.declared.Assignment.the-variants.{Unbegun, Begun, Closed}
+use Rattle.dimacs.specs.declared.Verdict.{Verdict}
+use Rattle.dimacs.specs.declared.Verdict.the-variants.{Yes, No, Unknown}
+use Rattle.dimacs.proofs.Tests.{chosen}
+use Rattle.dimacs.proofs.Logs.{Grown, ValuesGrow, values-grow}
+use Rattle.sat_solver_log.specs.Answers.{logOf, leftBy}
+use Rattle.sat_solver_log.specs.Lines.{stateOf, lineOf, lineLeaves, Goes, valueStart, solutionStart}
+use Rattle.sat_solver_log.specs.declared.Log.{Log}
+use Rattle.sat_solver_log.specs.declared.Reading.{Reading}
+use Rattle.sat_solver_log.specs.declared.Line.{Line}
+use Rattle.sat_solver_log.specs.declared.Line.the-variants.{Again, Answer}
+use Rattle.sat_solver_log.proofs.Buffer.{unchanged, in-place}
+use Rattle.sat_solver_log.proofs.Rows.{line-read-leaves}
+
+-- Only value lines add literals.
+module _ (s : List ℕ) where
+  solution-is-leaves : (v : Verdict) (w : List ℕ) (at : ℕ) (l : def.Log) (t : Step def.Log def.LogAnswer) → lineLeaves t ≡ l .so
+      → lineLeaves (def.solutionIs s v w at l t) ≡ l .so
+  solution-is-leaves v w at l t h =
+      chosen (λ d. lineLeaves d ≡ l .so) (unmoved at (fixed s w at)) (λ _. h) (λ _. line-read-leaves s (fixed s w at) (Said v) (l .assignment) (l .so))
+
+  pub solution-line-leaves : (at : ℕ) (l : def.Log) → lineLeaves (def.solutionLine s at l) ≡ l .so
+  unfolding def.solutionLine
+  solution-line-leaves at l =
+      solution-is-leaves Yes (bytes "SATISFIABLE") at l _
+      (solution-is-leaves No (bytes "UNSATISFIABLE") at l _
+      (solution-is-leaves Unknown (bytes "UNKNOWN") at l _
+      refl))
+
+  pub log-end-leaves : (at : ℕ) (solution : Solution) (so : List ℤ) (a : Assignment) → leftBy (def.logEnd s at solution so a) ≡ so
+  log-end-leaves at solution so Unbegun = refl
+  log-end-leaves at solution so Begun = refl
+  log-end-leaves at solution so Closed = refl
+
+  pub other-line-leaves : (mode : Mode) (l : def.Log) → lineLeaves (def.otherLine s mode l) ≡ l .so
+  other-line-leaves Strict l = refl
+  other-line-leaves Lenient l = refl
+
+-- The line that is read next.
+abbrev pub lineAt : List ℕ → Mode → List ℤ → Reading → Step def.Log def.LogAnswer
+lineAt s mode lits x = def.logLine s mode (length lits) (stateOf x (take (x .count) lits))
+
+-- A line that adds none leaves the buffer.
+stays : {d e : Step def.Log def.LogAnswer} {old : List ℤ} {count : ℕ} {r : Line} → count ≤ length old → d ≡ e → lineLeaves e ≡ take count old → r ≡ lineOf e → Goes d old old r
+stays h k l is = record { line = is ∙ ap lineOf (sym k); buffer = rw (k, l) (in-place (unchanged h)) }
+
+-- First bytes that are looked for only if a test fails.
+module _ (t : Bool) (v w at : ℕ) (is : v ≡ cond t at w) where
+  pub starts-not : v ≡ at → t || unmoved at w ≡ true
+  starts-not h = go t is
+    where
+      go : (t : Bool) → v ≡ cond t at w → t || unmoved at w ≡ true
+      go true e = refl
+      go false e = eq-eqb w at (sym e ∙ h)
+
+  pub starts-so : (v ≡ at → ⊥) → (t || unmoved at w ≡ false) × (v ≡ w)
+  starts-so h = go t is
+    where
+      go : (t : Bool) → v ≡ cond t at w → (t || unmoved at w ≡ false) × (v ≡ w)
+      go true e = absurd (h e)
+      go false e = (ne-eqb w at (λ k. h (e ∙ k)), e)
+
+-- By the places that the calls for the first bytes gave, what the call for the kind of line gives.
+module _ (s : List ℕ) (mode : Mode) (x : Reading) (old : List ℤ) (fits : x .count ≤ length old) (c : ℕ) (c-is : c ≡ strictComment s (x .place)) where
+  many : length (take (x .count) old) ≡ x .count
+  many = length-take-le (x .count) old fits
+
+  comment-is : (c ≡ x .place → ⊥) → lineAt s mode old x ≡ again (def.logAt c (x .solution) (x .assignment) (take (x .count) old))
+  unfolding def.logLine
+  comment-is h = rw (sym c-is, ne-eqb c (x .place) h)
+
+  pub comment-line : (c ≡ x .place → ⊥) → {y : Reading} → y ≡ record { place = c; solution = x .solution; assignment = x .assignment; count = x .count }
+      → Goes (lineAt s mode old x) old old (Again y)
+  comment-line h is = stays fits (comment-is h) refl (rw (is, many))
+
+  module _ (c-no : c ≡ x .place) (v : ℕ) (v-is : v ≡ valueStart s (x .assignment) (x .place)) where
+    value-is : (v ≡ x .place → ⊥) → lineAt s mode old x ≡ def.valueLine s (length old) v (stateOf x (take (x .count) old))
+    unfolding def.logLine
+    value-is h =
+        let j = starts-so (def.isClosed (x .assignment)) v (fixed s (bytes "v ") (x .place)) (x .place) v-is h in
+        rw (sym c-is, eq-eqb c (x .place) c-no, j .0, j .1)
+
+    pub value-line : (v ≡ x .place → ⊥) → {new : List ℤ} {r : Line} → Goes (def.valueLine s (length old) v (stateOf x (take (x .count) old))) old new r
+        → Goes (lineAt s mode old x) old new r
+    value-line h g = rw (value-is h) g
+
+    module _ (v-no : v ≡ x .place) (e : ℕ) (e-is : e ≡ solutionStart s (x .solution) (x .place)) where
+      no-values : def.isClosed (x .assignment) || unmoved (x .place) (fixed s (bytes "v ") (x .place)) ≡ true
+      no-values = starts-not (def.isClosed (x .assignment)) v (fixed s (bytes "v ") (x .place)) (x .place) v-is v-no
+
+      solution-is : (e ≡ x .place → ⊥) → lineAt s mode old x ≡ def.solutionLine s e (stateOf x (take (x .count) old))
+      unfolding def.logLine
+      solution-is h =
+          let i = starts-so (def.isSaid (x .solution)) e (fixed s (bytes "s ") (x .place)) (x .place) e-is h in
+          rw (sym c-is, eq-eqb c (x .place) c-no, no-values, i .0, i .1)
+
+      pub solution-line : (e ≡ x .place → ⊥) → {r : Line} → ((so : List ℤ) → length so ≡ x .count → r ≡ lineOf (def.solutionLine s e (stateOf x so)))
+          → Goes (lineAt s mode old x) old old r
+      solution-line h is = stays fits (solution-is h) (solution-line-leaves s e (stateOf x (take (x .count) old))) (is (take (x .count) old) many)
+
+      module _ (e-no : e ≡ x .place) where
+        no-solution : def.isSaid (x .solution) || unmoved (x .place) (fixed s (bytes "s ") (x .place)) ≡ true
+        no-solution = starts-not (def.isSaid (x .solution)) e (fixed s (bytes "s ") (x .place)) (x .place) e-is e-no
+
+        end-is : atEnd s (x .place) ≡ true → lineAt s mode old x ≡ answer (def.logEnd s (x .place) (x .solution) (take (x .count) old) (x .assignment))
+        unfolding def.logLine
+        end-is t = rw (sym c-is, eq-eqb c (x .place) c-no, no-values, no-solution, t)
+
+        pub last-line : atEnd s (x .place) ≡ true → {a : Log}
+            → ((so : List ℤ) → length so ≡ x .count → a ≡ logOf (def.logEnd s (x .place) (x .solution) so (x .assignment))) → Goes (lineAt s mode old x) old old (Answer a)
+        last-line t is = stays fits (end-is t) (log-end-leaves s (x .place) (x .solution) (take (x .count) old) (x .assignment)) (ap Answer (is (take (x .count) old) many))
+
+        other-is : atEnd s (x .place) ≡ false → lineAt s mode old x ≡ def.otherLine s mode (stateOf x (take (x .count) old))
+        unfolding def.logLine
+        other-is t = rw (sym c-is, eq-eqb c (x .place) c-no, no-values, no-solution, t)
+
+        pub other-line : atEnd s (x .place) ≡ false → {r : Line} → ((so : List ℤ) → length so ≡ x .count → r ≡ lineOf (def.otherLine s mode (stateOf x so)))
+            → Goes (lineAt s mode old x) old old r
+        other-line t is = stays fits (other-is t) (other-line-leaves s mode (stateOf x (take (x .count) old))) (is (take (x .count) old) many)
+
+-- By the places that the calls for the three words gave.
+module _ (s : List ℕ) (at : ℕ) (l : def.Log) (a : ℕ) (a-is : a ≡ fixed s (bytes "SATISFIABLE") at) where
+  pub says-yes : (a ≡ at → ⊥) → def.solutionLine s at l ≡ def.lineRead s a (Said Yes) (l .assignment) (l .so)
+  unfolding def.solutionLine
+  says-yes h = rw (sym a-is, ne-eqb a at h)
+
+  module _ (a-no : a ≡ at) (b : ℕ) (b-is : b ≡ fixed s (bytes "UNSATISFIABLE") at) where
+    pub says-no : (b ≡ at → ⊥) → def.solutionLine s at l ≡ def.lineRead s b (Said No) (l .assignment) (l .so)
+    unfolding def.solutionLine
+    says-no h = rw (sym a-is, eq-eqb a at a-no, sym b-is, ne-eqb b at h)
+
+    module _ (b-no : b ≡ at) (c : ℕ) (c-is : c ≡ fixed s (bytes "UNKNOWN") at) where
+      pub says-unknown : (c ≡ at → ⊥) → def.solutionLine s at l ≡ def.lineRead s c (Said Unknown) (l .assignment) (l .so)
+      unfolding def.solutionLine
+      says-unknown h = rw (sym a-is, eq-eqb a at a-no, sym b-is, eq-eqb b at b-no, sym c-is, ne-eqb c at h)
+
+      pub says-nothing : c ≡ at → def.solutionLine s at l ≡ answer (def.refusedLog (refusal s Reason.solutionExpected at) (l .so))
+      unfolding def.solutionLine
+      says-nothing h = rw (sym a-is, eq-eqb a at a-no, sym b-is, eq-eqb b at b-no, sym c-is, eq-eqb c at h)
+
+module _ (s : List ℕ) (mode : Mode) (room : ℕ) (l : def.Log) where
+  Grows : Step def.Log def.LogAnswer → Type 0
+  Grows t = Grown room (l .so) (lineLeaves t)
+
+  same-grows : (t : Step def.Log def.LogAnswer) → lineLeaves t ≡ l .so → Grows t
+  unfolding Grows
+  same-grows t h = rw h (omega arith)
+
+  value-line-grows : (at : ℕ) → Grows (def.valueLine s room at l)
+  unfolding def.valueLine Grows
+  value-line-grows at = go (def.valuesFrom s room (def.rowAt (blanks s at) (l .so))) (values-grow s room (def.rowAt (blanks s at) (l .so)))
+    where
+      go : (d : def.Values) → ValuesGrow room (l .so) d → Grown room (l .so) (lineLeaves (def.valuesRead s (l .solution) d))
+      go (def.values n a so) g = subst⁻¹ (Grown room (l .so)) (line-read-leaves s n (l .solution) a so) g
+      go (def.stopped r so) g = g
+
+  -- A line adds literals or none, and only while there is room.
+  pub log-line-grows : Grown room (l .so) (lineLeaves (def.logLine s mode room l))
+  unfolding def.logLine Grows
+  log-line-grows =
+      let at = l .at in
+      let c = strictComment s at in
+      let v = fixed s (bytes "v ") at in
+      let e = fixed s (bytes "s ") at in
+      chosen Grows (unmoved at c)
+      (λ _. chosen Grows (def.isClosed (l .assignment) || unmoved at v)
+      (λ _. chosen Grows (def.isSaid (l .solution) || unmoved at e)
+      (λ _. chosen Grows (atEnd s at)
+      (λ _. same-grows (answer (def.logEnd s at (l .solution) (l .so) (l .assignment))) (log-end-leaves s at (l .solution) (l .so) (l .assignment)))
+      (λ _. same-grows (def.otherLine s mode l) (other-line-leaves s mode l)))
+      (λ _. same-grows (def.solutionLine s e l) (solution-line-leaves s e l)))
+      (λ _. value-line-grows v))
+      (λ _. same-grows (again (def.logAt c (l .solution) (l .assignment) (l .so))) refl)

@@ -1,0 +1,65 @@
+-- The loop over the lines of a log: what it comes to from here on is what it comes to from the start. Assumes nothing.
+use Prim.Native.Nat.{ℕ, _-_, _≤_, _<_}
+use mathlib.Core.List.{List, []}
+use mathlib.Core.Path.{_≡_, refl, ap, sym, _∙_, subst}
+use native.Mathlib.Omega.{arith}
+use lib.ListN.{length, take}
+use lib.IntN.{ℤ}
+use Rattle.dimacs.specs.Loop.{Step, again, answer}
+use Rattle.dimacs.specs.Logs as def
+use Rattle.dimacs.specs.declared.Mode.{Mode}
+use Rattle.dimacs.specs.declared.Solution.the-variants.{Unsaid}
+use Rattle.dimacs.specs.declared.Assignment.the-variants.{Unbegun}
+use Rattle.dimacs.proofs.Loops.{after}
+use Rattle.dimacs.proofs.Logs.{LineLeads, log-line-leads, log-step}
+use Rattle.clause.specs.Answers.{laid}
+use Rattle.sat_solver_log.specs.Answers.{logOf, leftBy, Parses}
+use Rattle.sat_solver_log.specs.Lines.{stateOf, readingOf, lineOf, lineLeaves, Goes}
+use Rattle.sat_solver_log.specs.declared.Log.{Log}
+use Rattle.sat_solver_log.specs.declared.Reading.{Reading}
+use Rattle.sat_solver_log.specs.declared.Line.the-variants.{Again, Answer}
+use Rattle.sat_solver_log.proofs.Buffer.{Kept, unchanged, counted, beyond, adds, front}
+use Rattle.sat_solver_log.proofs.Lines.{lineAt, log-line-grows}
+
+-- Two permitted answers are equal, and so are the buffers after them.
+pub one-log : {d : def.LogAnswer} {old n₁ n₂ : List ℤ} {r₁ r₂ : Log} → Parses d old n₁ r₁ → Parses d old n₂ r₂ → (r₁ ≡ r₂) × (n₁ ≡ n₂)
+one-log p q = (p .answer ∙ sym (q .answer), p .buffer ∙ sym (q .buffer))
+
+pub record Held (s : List ℕ) (mode : Mode) (old lits : List ℤ) (x : Reading) : Type 0 where
+  pub kept : Kept old lits (x .count)
+  pub so-far : def.log s mode (length old) ≡ def.logFrom s mode (length old) (stateOf x (take (x .count) lits))
+
+pub starts : (s : List ℕ) (mode : Mode) (old : List ℤ) → Held s mode old old (record { place = 0; solution = Unsaid; assignment = Unbegun; count = 0 })
+unfolding def.log
+starts s mode old = record { kept = unchanged (omega arith); so-far = refl }
+
+module _ {s : List ℕ} {mode : Mode} {old lits : List ℤ} {x : Reading} (h : Held s mode old lits x) where
+  step : def.log s mode (length old) ≡ after (lineAt s mode lits x) (def.logFrom s mode (length old))
+  step = rw (h .kept .same) (h .so-far ∙ log-step s mode (length old) (stateOf x (take (x .count) lits)))
+
+  grows : (x .count ≤ length (lineLeaves (lineAt s mode lits x))) × (length (lineLeaves (lineAt s mode lits x)) ≤ length lits)
+  grows = let k = h .kept .fits in omega (arith, log-line-grows s mode (length lits) (stateOf x (take (x .count) lits)), counted (h .kept))
+
+  -- On to the next line, which is further on.
+  pub goes-on : {new : List ℤ} {y : Reading} → Goes (lineAt s mode lits x) lits new (Again y) → Held s mode old new y × (length s - y .place < length s - x .place)
+  goes-on {new} {y} g = go (lineAt s mode lits x) step grows (log-line-leads s mode (length lits) (stateOf x (take (x .count) lits))) (g .line) (g .buffer)
+    where
+      go : (t : Step def.Log def.LogAnswer) → def.log s mode (length old) ≡ after t (def.logFrom s mode (length old))
+          → (x .count ≤ length (lineLeaves t)) × (length (lineLeaves t) ≤ length lits) → LineLeads s (x .place) t → Again y ≡ lineOf t → new ≡ laid (lineLeaves t) lits
+          → Held s mode old new y × (length s - y .place < length s - x .place)
+      go (again l) e k m a b =
+          let q : readingOf l ≡ y = cc in
+          subst (λ z. Held s mode old new z × (length s - z .place < length s - x .place)) q
+          (rw b (record { kept = adds (h .kept) (l .so) (k .0) (k .1); so-far = rw (front (l .so) lits) e }), omega arith)
+      go (answer _) e k m a b = absurd (let z : _≡_ {A = ℕ} 0 1 = cc in omega arith)
+
+  pub answered : {new : List ℤ} {a : Log} → Goes (lineAt s mode lits x) lits new (Answer a) → Parses (def.log s mode (length old)) old new a
+  answered {new} {a} g = go (lineAt s mode lits x) step grows (g .line) (g .buffer)
+    where
+      go : (t : Step def.Log def.LogAnswer) → def.log s mode (length old) ≡ after t (def.logFrom s mode (length old))
+          → (x .count ≤ length (lineLeaves t)) × (length (lineLeaves t) ≤ length lits) → Answer a ≡ lineOf t → new ≡ laid (lineLeaves t) lits
+          → Parses (def.log s mode (length old)) old new a
+      go (again _) e k i b = absurd (let z : _≡_ {A = ℕ} 0 1 = cc in omega arith)
+      go (answer d) e k i b =
+          let q : a ≡ logOf d = cc in
+          rw e (record { answer = q; buffer = b ∙ rw (beyond (h .kept) (length (leftBy d)) (k .0)) })

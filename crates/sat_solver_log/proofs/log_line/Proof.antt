@@ -1,0 +1,71 @@
+-- `sat_solver_log::log_line` meets its contract, by the kind of the line. Assumes nothing.
+use mathlib.Core.Path.{sym, _∙_}
+use Rattle.sat_solver_log.proofs.Lines.{comment-line, value-line, solution-line, last-line, other-line}
+use borrow.Author.Needs.{needs}
+use Rattle.sat_solver_log.proofs.log_line.Statement.{statement}
+use Rattle.sat_solver_log.proofs.log_line.Tie as tie
+
+interactive-strict-comment-requires : tie.Need-interactive-strict-comment-requires
+interactive-strict-comment-requires c κs = search needs
+
+goes-requires : tie.Need-goes-requires
+goes-requires c κs = search needs
+
+returns : tie.Need-returns
+returns c = comment-line _ _ _ _ (c .before .before .before .before .pre) _ (c .before .before .interactive-strict-comment .ensures) (c .before .if1 .taken) (c .goes .ensures)
+
+value-start-requires : tie.Need-value-start-requires
+value-start-requires c κs = search needs
+
+value-line-requires : tie.Need-value-line-requires
+value-line-requires c κs = search needs
+
+same-length : tie.Need-same-length
+same-length c = search needs
+
+returns-2 : tie.Need-returns-2
+returns-2 c = value-line _ _ _ _ (c .before .before .before .before .before .before .before .before .pre) _ (c .before .before .before .before .before .before .interactive-strict-comment .ensures) (c .before .before .before .before .before .if1 .left) _ (c .before .before .before .before .value-start .ensures) (c .before .before .before .if2 .taken) (c .before .value-line .ensures)
+
+solution-start-requires : tie.Need-solution-start-requires
+solution-start-requires c κs = search needs
+
+solution-line-requires : tie.Need-solution-line-requires
+solution-line-requires c κs = search needs
+
+returns-3 : tie.Need-returns-3
+returns-3 c = solution-line _ _ _ _ (c .before .before .before .before .before .before .before .before .pre) _ (c .before .before .before .before .before .before .interactive-strict-comment .ensures) (c .before .before .before .before .before .if1 .left) _ (c .before .before .before .before .value-start .ensures) (c .before .before .before .if2 .left) _ (c .before .before .solution-start .ensures) (c .before .if3 .taken) (c .solution-line .ensures)
+
+eof-requires : tie.Need-eof-requires
+eof-requires c κs = search needs
+
+log-end-requires : tie.Need-log-end-requires
+log-end-requires c κs = search needs
+
+returns-4 : tie.Need-returns-4
+returns-4 c = last-line _ _ _ _ (c .before .before .before .before .before .before .before .before .before .before .pre) _ (c .before .before .before .before .before .before .before .before .interactive-strict-comment .ensures) (c .before .before .before .before .before .before .before .if1 .left) _ (c .before .before .before .before .before .before .value-start .ensures) (c .before .before .before .before .before .if2 .left) _ (c .before .before .before .before .solution-start .ensures) (c .before .before .before .if3 .left) (sym (c .before .before .eof .ensures) ∙ c .before .if4 .taken) (c .log-end .ensures)
+
+other-line-requires : tie.Need-other-line-requires
+other-line-requires c κs = search needs
+
+returns-5 : tie.Need-returns-5
+returns-5 c = other-line _ _ _ _ (c .before .before .before .before .before .before .before .before .before .before .pre) _ (c .before .before .before .before .before .before .before .before .interactive-strict-comment .ensures) (c .before .before .before .before .before .before .before .if1 .left) _ (c .before .before .before .before .before .before .value-start .ensures) (c .before .before .before .before .before .if2 .left) _ (c .before .before .before .before .solution-start .ensures) (c .before .before .before .if3 .left) (sym (c .before .before .eof .ensures) ∙ c .before .if4 .left) (c .other-line .ensures)
+
+pub log-line-spec : {M : Type 1} → statement M
+log-line-spec =
+    tie.close
+    (tie.spec
+    interactive-strict-comment-requires
+    goes-requires
+    returns
+    value-start-requires
+    value-line-requires
+    same-length
+    returns-2
+    solution-start-requires
+    solution-line-requires
+    returns-3
+    eof-requires
+    log-end-requires
+    returns-4
+    other-line-requires
+    returns-5)
