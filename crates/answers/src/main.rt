@@ -7,9 +7,14 @@ use dimacs::Format;
 use dimacs::Header;
 use dimacs::Opening;
 use dimacs::Refusal;
+use dimacs::Verdict;
 use formula::Cursor;
 use libc::STDIN_FILENO;
 use libc::STDOUT_FILENO;
+use sat_solver_log::Log;
+
+// The number of logs in a frame.
+const LOG_FORMAT: u8 = 3;
 
 fn word(w: &[u8]) {
     io::write_all(STDOUT_FILENO, w);
@@ -127,13 +132,44 @@ fn formula_lines(text: &[u8], format: u8, mode: u8, lits: &mut [i32]) {
     clauses(text, cursor, lits);
 }
 
+fn verdict_word(verdict: Verdict) {
+    match verdict {
+        Verdict::Yes => word(b" yes"),
+        Verdict::No => word(b" no"),
+        Verdict::Unknown => word(b" unknown"),
+    }
+}
+
+fn accepted_lines(verdict: Verdict, lits: &[i32]) {
+    word(b"verdict");
+    verdict_word(verdict);
+    word(b"\nliterals");
+    literals(lits);
+    word(b"\n");
+}
+
+fn log_lines(text: &[u8], mode: u8, lits: &mut [i32]) {
+    match sat_solver_log::parse_log(text, mode, lits) {
+        Log::Accepted { verdict, count } => accepted_lines(verdict, &lits[..count]),
+        Log::Refused { refusal, count } => refused_line(text, refusal, count),
+    }
+}
+
+// What the reader of a format says of the text. What is no format is left to the reader of formulas, which refuses it.
+fn reader_lines(text: &[u8], format: u8, mode: u8, lits: &mut [i32]) {
+    if format == LOG_FORMAT {
+        return log_lines(text, mode, lits);
+    }
+    formula_lines(text, format, mode, lits)
+}
+
 // The text of a frame, and whether it came whole.
 fn text_lines(text: &mut [u8], format: u8, mode: u8, lits: &mut [i32]) -> bool {
     if io::read_full(STDIN_FILENO, text) < text.len() {
         word(b"cut\n");
         return false;
     }
-    formula_lines(text, format, mode, lits);
+    reader_lines(text, format, mode, lits);
     true
 }
 

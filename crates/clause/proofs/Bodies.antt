@@ -18,7 +18,7 @@ use Rattle.dimacs.specs.declared.Int.{Int}
 use Rattle.dimacs.specs.declared.Int.the-variants as int
 use Rattle.dimacs.specs.declared.EndOfLine.the-variants as end
 use Rattle.dimacs.proofs.Int.{the-type}
-use Rattle.clause.specs.Answers.{laid, literalsOf, readOf, Reads, answeredOf, refusedOf, leftBy, Answers}
+use Rattle.clause.specs.Answers.{literalsOf, readOf, Reads, answeredOf, refusedOf, leftBy, Answers}
 use Rattle.clause.specs.declared.Literals.the-variants.{Closed, Stopped}
 use Rattle.clause.specs.declared.Next.the-variants as next
 use Rattle.clause.specs.declared.Answered.{Answered}
@@ -33,7 +33,7 @@ module _ (s : List ℕ) (limits : Limits) (extra at : ℕ) (old new : List ℤ) 
   unfolding def.body
   body-open {n} {p} h k r is = go (def.literals s (limits .literals) (length old) at) (h .answer) (h .buffer)
     where
-      go : (d : def.Literals) → Closed n p ≡ literalsOf d → new ≡ laid (readOf d) old → Answers (def.clauseOf s extra d) old new r
+      go : (d : def.Literals) → Closed n p ≡ literalsOf d → new ≡ def.laid (readOf d) old → Answers (def.clauseOf s extra d) old new r
       go (def.closed so q) e b =
           let l : n ≡ length so = cc in
           let m : p ≡ q = cc in
@@ -46,7 +46,7 @@ module _ (s : List ℕ) (limits : Limits) (extra at : ℕ) (old new : List ℤ) 
   unfolding def.body
   body-closed {n} {p} {q} h k = go (def.literals s (limits .literals) (length old) at) (h .answer) (h .buffer)
     where
-      go : (d : def.Literals) → Closed n p ≡ literalsOf d → new ≡ laid (readOf d) old → Answers (def.clauseOf s extra d) old new (record { answer = next.Clause extra n; place = q })
+      go : (d : def.Literals) → Closed n p ≡ literalsOf d → new ≡ def.laid (readOf d) old → Answers (def.clauseOf s extra d) old new (record { answer = next.Clause extra n; place = q })
       go (def.closed so x) e b =
           let l : n ≡ length so = cc in
           let m : p ≡ x = cc in
@@ -59,7 +59,7 @@ module _ (s : List ℕ) (limits : Limits) (extra at : ℕ) (old new : List ℤ) 
   unfolding def.body
   body-stopped {r} {n} h = go (def.literals s (limits .literals) (length old) at) (h .answer) (h .buffer)
     where
-      go : (d : def.Literals) → Stopped r n ≡ literalsOf d → new ≡ laid (readOf d) old → Answers (def.clauseOf s extra d) old new (record { answer = next.Refused r n; place = r .place })
+      go : (d : def.Literals) → Stopped r n ≡ literalsOf d → new ≡ def.laid (readOf d) old → Answers (def.clauseOf s extra d) old new (record { answer = next.Refused r n; place = r .place })
       go (def.closed so x) e b = absurd (let z : _≡_ {A = ℕ} 0 1 = cc in omega arith)
       go (def.stopped x so) e b =
           let l : n ≡ length so = cc in
@@ -71,14 +71,14 @@ pub refused-at : (s : List ℕ) (why : Reason) (at : ℕ) (old : List ℤ) {r : 
 refused-at s why at old e = record { answer = e; buffer = refl }
 
 -- So does the end, or refusal 9 in its place.
-untouched : (s : List ℕ) (permitted : Bool) (at : ℕ) (old : List ℤ) → old ≡ laid (leftBy (def.noClause s permitted at .answer)) old
+untouched : (s : List ℕ) (permitted : Bool) (at : ℕ) (old : List ℤ) → old ≡ def.laid (leftBy (def.noClause s permitted at .answer)) old
 unfolding def.noClause
 untouched s permitted at old = go permitted (atEnd s at)
   where
     refuse : def.Answered
     refuse = def.refuses s Reason.clauseExpected at []
 
-    go : (t u : Bool) → old ≡ laid (leftBy (cond t (cond u (def.says def.ended at) refuse) refuse .answer)) old
+    go : (t u : Bool) → old ≡ def.laid (leftBy (cond t (cond u (def.says def.ended at) refuse) refuse .answer)) old
     go true true = refl
     go true false = refl
     go false u = refl

@@ -1,8 +1,8 @@
 -- The answers of the code by those of the definition, case by case, and what the lent buffer holds after them.
 use Prim.Native.Nat.{ℕ}
-use mathlib.Core.List.{List, [], _++_}
+use mathlib.Core.List.{List, []}
 use mathlib.Core.Path.{_≡_}
-use lib.ListN.{length, drop}
+use lib.ListN.{length}
 use lib.IntN.{ℤ}
 use Rattle.dimacs.specs.Names.{numbered}
 use Rattle.dimacs.specs.Clauses as def
@@ -11,10 +11,6 @@ use Rattle.clause.specs.declared.Literals.the-variants.{Closed, Stopped}
 use Rattle.clause.specs.declared.Next.{Next}
 use Rattle.clause.specs.declared.Next.the-variants as next
 use Rattle.clause.specs.declared.Answered.{Answered}
-
--- The literals read, then the old contents.
-abbrev pub laid : List ℤ → List ℤ → List ℤ
-laid so old = so ++ drop (length so) old
 
 abbrev pub literalsOf : def.Literals → Literals
 literalsOf (def.closed so at) = Closed (length so) at
@@ -27,7 +23,7 @@ readOf (def.stopped r so) = so
 -- Reading literals: the answer, and the buffer after it.
 pub record Reads (s : List ℕ) (limit at : ℕ) (old new : List ℤ) (r : Literals) : Type 0 where
   pub answer : r ≡ literalsOf (def.literals s limit (length old) at)
-  pub buffer : new ≡ laid (readOf (def.literals s limit (length old) at)) old
+  pub buffer : new ≡ def.laid (readOf (def.literals s limit (length old) at)) old
 
 -- A clause is told by its weight or group and its count of literals, a refusal by its number and place and the count of literals before it.
 abbrev pub nextOf : def.Answer → Next
@@ -50,4 +46,4 @@ refusedOf s number at count = record { answer = next.Refused (numbered s number 
 -- An answer of the definition is given: the answer, and the buffer after it.
 pub record Answers (d : def.Answered) (old new : List ℤ) (r : Answered) : Type 0 where
   pub answer : r ≡ answeredOf d
-  pub buffer : new ≡ laid (leftBy (d .answer)) old
+  pub buffer : new ≡ def.laid (leftBy (d .answer)) old

@@ -9,6 +9,7 @@ pub mod Lines
 pub mod Words
 pub mod Numbers
 pub mod Clauses
+pub mod Buffer
 pub mod Literals
 pub mod Texts
 pub mod Logs

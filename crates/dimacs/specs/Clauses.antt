@@ -2,7 +2,7 @@
 use Prim.Native.Nat.{ℕ, suc, _+_}
 use mathlib.Core.Bool.{Bool, true, false, cond}
 use mathlib.Core.List.{List, [], _∷_, _++_}
-use lib.ListN.{length}
+use lib.ListN.{length, drop}
 use lib.Dec.{leb}
 use lib.IntN.{ℤ}
 use Rattle.dimacs.specs.Loop.{Step, again, answer, loop}
@@ -16,6 +16,10 @@ use Rattle.dimacs.specs.declared.Uint.{Uint}
 use Rattle.dimacs.specs.declared.Uint.the-variants as uint
 use Rattle.dimacs.specs.declared.Int.{Int}
 use Rattle.dimacs.specs.declared.Int.the-variants as int
+
+-- What a lent buffer holds after literals are read into it: those, then its old contents.
+abbrev pub laid : List ℤ → List ℤ → List ℤ
+laid so old = so ++ drop (length so) old
 
 -- What a list of literals comes to: they close, at the place past the 0; or a refusal, with the literals before it.
 pub data Literals : Type 0 where

@@ -18,7 +18,7 @@ use Rattle.dimacs.specs.declared.Opening.{Opening}
 use Rattle.dimacs.specs.declared.Opening.the-variants as opening
 use Rattle.dimacs.specs.declared.Final.{Final}
 use Rattle.dimacs.specs.declared.Final.the-variants as final
-use Rattle.clause.specs.Answers.{laid, nextOf, leftBy, answeredOf}
+use Rattle.clause.specs.Answers.{nextOf, leftBy, answeredOf}
 use Rattle.clause.specs.declared.Next.{Next}
 use Rattle.clause.specs.declared.Next.the-variants as next
 use Rattle.clause.specs.declared.Answered.{Answered}
@@ -83,4 +83,4 @@ stepOf s room c = settledAs c (answeredOf (answerFrom s room c))
 -- A call's whole promise. The room is the buffer's length.
 pub record Steps (s : List ℕ) (c : Cursor) (old new : List ℤ) (r : Stepped) : Type 0 where
   pub answer : r ≡ stepOf s (length old) c
-  pub buffer : new ≡ laid (leftBy (answerFrom s (length old) c .answer)) old
+  pub buffer : new ≡ def.laid (leftBy (answerFrom s (length old) c .answer)) old

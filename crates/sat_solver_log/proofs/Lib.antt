@@ -1,5 +1,4 @@
--- Laws about the buffer, the lines and the loop over them, which several proofs cite.
-pub mod Buffer
+-- Laws about the lines and the loop over them, which several proofs cite.
 pub mod Rows
 pub mod Lines
 pub mod Runs

@@ -30,7 +30,7 @@ use Rattle.sat_solver_log.specs.declared.Log.{Log}
 use Rattle.sat_solver_log.specs.declared.Reading.{Reading}
 use Rattle.sat_solver_log.specs.declared.Line.{Line}
 use Rattle.sat_solver_log.specs.declared.Line.the-variants.{Again, Answer}
-use Rattle.sat_solver_log.proofs.Buffer.{unchanged, in-place}
+use Rattle.dimacs.proofs.Buffer.{unchanged, in-place}
 use Rattle.sat_solver_log.proofs.Rows.{line-read-leaves}
 
 -- Only value lines add literals.

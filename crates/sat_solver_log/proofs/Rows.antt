@@ -16,14 +16,14 @@ use Rattle.dimacs.specs.declared.Solution.{Solution}
 use Rattle.dimacs.specs.declared.Assignment.{Assignment}
 use Rattle.dimacs.specs.declared.EndOfLine.{EndOfLine}
 use Rattle.dimacs.specs.declared.EndOfLine.the-variants as end
-use Rattle.clause.specs.Answers.{laid}
+use Rattle.dimacs.specs.Clauses.{laid}
 use Rattle.sat_solver_log.specs.Lines.{stateOf, lineOf, lineLeaves, Goes, valuesOf, valuesLeave, Reads}
 use Rattle.sat_solver_log.specs.declared.Log.the-variants.{Refused}
 use Rattle.sat_solver_log.specs.declared.Reading.{Reading}
 use Rattle.sat_solver_log.specs.declared.Values.the-variants.{Row, Stopped}
 use Rattle.sat_solver_log.specs.declared.Line.{Line}
 use Rattle.sat_solver_log.specs.declared.Line.the-variants.{Answer}
-use Rattle.sat_solver_log.proofs.Buffer.{Kept, unchanged, counted, in-place, puts}
+use Rattle.dimacs.proofs.Buffer.{Kept, unchanged, counted, in-place, puts}
 
 -- What is read from here on is what is read from the start.
 pub record Held (s : List ℕ) (at held : ℕ) (old lits : List ℤ) (place count : ℕ) : Type 0 where

@@ -3,7 +3,7 @@ use Prim.Native.Nat.{ℕ, _-_, _≤_, _<_}
 use mathlib.Core.List.{List, []}
 use mathlib.Core.Path.{_≡_, refl, ap, sym, _∙_, subst}
 use native.Mathlib.Omega.{arith}
-use lib.ListN.{length, take}
+use lib.ListN.{length, take, drop, length-append}
 use lib.IntN.{ℤ}
 use Rattle.dimacs.specs.Loop.{Step, again, answer}
 use Rattle.dimacs.specs.Logs as def
@@ -12,18 +12,31 @@ use Rattle.dimacs.specs.declared.Solution.the-variants.{Unsaid}
 use Rattle.dimacs.specs.declared.Assignment.the-variants.{Unbegun}
 use Rattle.dimacs.proofs.Loops.{after}
 use Rattle.dimacs.proofs.Logs.{LineLeads, log-line-leads, log-step}
-use Rattle.clause.specs.Answers.{laid}
+use Rattle.dimacs.specs.Clauses.{laid}
 use Rattle.sat_solver_log.specs.Answers.{logOf, leftBy, Parses}
 use Rattle.sat_solver_log.specs.Lines.{stateOf, readingOf, lineOf, lineLeaves, Goes}
 use Rattle.sat_solver_log.specs.declared.Log.{Log}
+use Rattle.sat_solver_log.specs.declared.Log.the-variants.{Accepted, Refused}
 use Rattle.sat_solver_log.specs.declared.Reading.{Reading}
 use Rattle.sat_solver_log.specs.declared.Line.the-variants.{Again, Answer}
-use Rattle.sat_solver_log.proofs.Buffer.{Kept, unchanged, counted, beyond, adds, front}
+use Rattle.dimacs.proofs.Buffer.{Kept, unchanged, counted, beyond, adds, front}
 use Rattle.sat_solver_log.proofs.Lines.{lineAt, log-line-grows}
 
 -- Two permitted answers are equal, and so are the buffers after them.
 pub one-log : {d : def.LogAnswer} {old n₁ n₂ : List ℤ} {r₁ r₂ : Log} → Parses d old n₁ r₁ → Parses d old n₂ r₂ → (r₁ ≡ r₂) × (n₁ ≡ n₂)
 one-log p q = (p .answer ∙ sym (q .answer), p .buffer ∙ sym (q .buffer))
+
+abbrev pub CountFits : ℕ → Log → Type 0
+CountFits room (Accepted v n) = n ≤ room
+CountFits room (Refused r n) = n ≤ room
+
+-- No answer counts more literals than the buffer holds.
+pub parses-fit : {d : def.LogAnswer} {old new : List ℤ} {r a : Log} → Parses d old new r → r ≡ a → CountFits (length new) a
+parses-fit {d} {old} {new} p g = subst (CountFits (length new)) (sym (p .answer) ∙ g) (go d (p .buffer))
+  where
+    go : (d : def.LogAnswer) → new ≡ laid (leftBy d) old → CountFits (length new) (logOf d)
+    go (def.accepted v so) e = rw e (omega (arith, length-append so (drop (length so) old)))
+    go (def.refusedLog r so) e = rw e (omega (arith, length-append so (drop (length so) old)))
 
 pub record Held (s : List ℕ) (mode : Mode) (old lits : List ℤ) (x : Reading) : Type 0 where
   pub kept : Kept old lits (x .count)

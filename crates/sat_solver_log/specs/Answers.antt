@@ -8,7 +8,7 @@ use lib.IntN.{ℤ}
 use Rattle.dimacs.specs.Names.{Reason, callRefusal}
 use Rattle.dimacs.specs.Logs as def
 use Rattle.dimacs.specs.declared.Mode.{Mode}
-use Rattle.clause.specs.Answers.{laid}
+use Rattle.dimacs.specs.Clauses.{laid}
 use Rattle.sat_solver_log.specs.declared.Log.{Log}
 use Rattle.sat_solver_log.specs.declared.Log.the-variants.{Accepted, Refused}
 

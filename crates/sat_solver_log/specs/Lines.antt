@@ -12,7 +12,7 @@ use Rattle.dimacs.specs.Tokens.{fixed}
 use Rattle.dimacs.specs.Logs as def
 use Rattle.dimacs.specs.declared.Solution.{Solution}
 use Rattle.dimacs.specs.declared.Assignment.{Assignment}
-use Rattle.clause.specs.Answers.{laid}
+use Rattle.dimacs.specs.Clauses.{laid}
 use Rattle.sat_solver_log.specs.declared.Log.the-variants.{Refused}
 use Rattle.sat_solver_log.specs.declared.Reading.{Reading}
 use Rattle.sat_solver_log.specs.declared.Values.{Values}

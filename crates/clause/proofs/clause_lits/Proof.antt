@@ -7,7 +7,8 @@ use mir.Val.{toZ, ofZ}
 use Rattle.dimacs.specs.Clauses.{reads}
 use Rattle.dimacs.proofs.Clauses.{left}
 use Rattle.dimacs.proofs.Literals.{closes, too-big, full, takes, none-after-lines, none-on-line, breaks, takes-falls, breaks-falls}
-use Rattle.clause.proofs.Buffer.{Held, starts, closed-at, stopped-at, no-room, room, moves-to, puts}
+use Rattle.dimacs.proofs.Buffer.{no-room, room}
+use Rattle.clause.proofs.Buffer.{Held, starts, closed-at, stopped-at, moves-to, puts}
 use borrow.Author.Needs.{needs}
 use Rattle.clause.proofs.clause_lits.Statement.{statement}
 use Rattle.clause.proofs.clause_lits.Tie as tie
@@ -91,7 +92,7 @@ same-length-5 : tie.Need-same-length-5 Inv-loop μ-loop
 same-length-5 c = search needs
 
 returns-5 : tie.Need-returns-5 Inv-loop μ-loop
-returns-5 c = stopped-at (c .before .before .before .before .before .before .loop .inv) _ (c .refuse4 .ensures) (full _ _ _ _ _ _ (sym (c .before .before .before .before .before .int .ensures) ∙ c .before .before .before .v .given .1) (no-room (c .before .before .before .before .before .before .loop .inv) (c .before .if3 .taken)))
+returns-5 c = stopped-at (c .before .before .before .before .before .before .loop .inv) _ (c .refuse4 .ensures) (full _ _ _ _ _ _ (sym (c .before .before .before .before .before .int .ensures) ∙ c .before .before .before .v .given .1) (no-room (c .before .before .before .before .before .before .loop .inv .kept) (c .before .if3 .taken)))
 
 mul-v : tie.Need-mul-v Inv-loop μ-loop
 mul-v c = search needs
@@ -107,7 +108,7 @@ loop-less-2 c = takes-falls _ _ _ (c .before .before .before .before .before .lo
 
 loop-again-2 : tie.Need-loop-again-2 Inv-loop μ-loop
 loop-again-2 c = let z = read-back c in
-    rw z (puts (c .before .before .before .before .before .loop .inv) _ _ (c .if3 .left) (takes _ _ _ _ _ _ (sym (c .before .before .before .before .int .ensures) ∙ c .before .before .v .given .1) (room (c .before .before .before .before .before .loop .inv) (c .if3 .left))))
+    rw z (puts (c .before .before .before .before .before .loop .inv) _ _ (c .if3 .left) (takes _ _ _ _ _ _ (sym (c .before .before .before .before .int .ensures) ∙ c .before .before .v .given .1) (room (c .before .before .before .before .before .loop .inv .kept) (c .if3 .left))))
 
 pub clause-lits-spec : {M : Type 1} → statement M
 clause-lits-spec =

@@ -5,7 +5,7 @@ use lib.ListN.{length}
 use mir.Syntax.{w32}
 use mir.Val.{toZ, ofZ}
 use Rattle.dimacs.proofs.Values.{row-ends, row-closes, row-too-big, row-full, row-takes, row-falls}
-use Rattle.sat_solver_log.proofs.Buffer.{no-room, room}
+use Rattle.dimacs.proofs.Buffer.{no-room, room}
 use Rattle.sat_solver_log.proofs.Rows.{Held, starts, row-at, stopped-at, adds-one}
 use borrow.Author.Needs.{needs}
 use Rattle.sat_solver_log.proofs.value_row.Statement.{statement}
