@@ -1,0 +1,19 @@
+-- `sat_solver_log::is_said` meets its contract, by the solution. Assumes nothing.
+use borrow.Author.Needs.{needs}
+use Rattle.sat_solver_log.proofs.is_said.Statement.{statement}
+use Rattle.sat_solver_log.proofs.is_said.Tie as tie
+
+enum-told : tie.Need-enum-told
+enum-told c = search needs
+
+enum-told-2 : tie.Need-enum-told-2
+enum-told-2 c = search needs
+
+returns : tie.Need-returns
+returns c = search needs
+
+returns-2 : tie.Need-returns-2
+returns-2 c = search needs
+
+pub is-said-spec : {M : Type 1} → statement M
+is-said-spec = tie.close (tie.spec enum-told enum-told-2 returns returns-2)
