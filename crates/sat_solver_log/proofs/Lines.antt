@@ -5,7 +5,6 @@ use mathlib.Core.List.{List}
 use mathlib.Core.Path.{_≡_, refl, ap, sym, _∙_, subst⁻¹}
 use native.Mathlib.Omega.{arith}
 use borrow.Author.Tests.{eq-eqb, ne-eqb}
-use lib.Dec.{eqb}
 use lib.ListN.{length, take}
 use lib.Seq.{length-take-le}
 use lib.IntN.{ℤ}
@@ -40,7 +39,7 @@ module _ (s : List ℕ) where
   solution-is-leaves v w at l t h =
       chosen (λ d. lineLeaves d ≡ l .so) (unmoved at (fixed s w at)) (λ _. h) (λ _. line-read-leaves s (fixed s w at) (Said v) (l .assignment) (l .so))
 
-  pub solution-line-leaves : (at : ℕ) (l : def.Log) → lineLeaves (def.solutionLine s at l) ≡ l .so
+  solution-line-leaves : (at : ℕ) (l : def.Log) → lineLeaves (def.solutionLine s at l) ≡ l .so
   unfolding def.solutionLine
   solution-line-leaves at l =
       solution-is-leaves Yes (bytes "SATISFIABLE") at l _
@@ -48,12 +47,12 @@ module _ (s : List ℕ) where
       (solution-is-leaves Unknown (bytes "UNKNOWN") at l _
       refl))
 
-  pub log-end-leaves : (at : ℕ) (solution : Solution) (so : List ℤ) (a : Assignment) → leftBy (def.logEnd s at solution so a) ≡ so
+  log-end-leaves : (at : ℕ) (solution : Solution) (so : List ℤ) (a : Assignment) → leftBy (def.logEnd s at solution so a) ≡ so
   log-end-leaves at solution so Unbegun = refl
   log-end-leaves at solution so Begun = refl
   log-end-leaves at solution so Closed = refl
 
-  pub other-line-leaves : (mode : Mode) (l : def.Log) → lineLeaves (def.otherLine s mode l) ≡ l .so
+  other-line-leaves : (mode : Mode) (l : def.Log) → lineLeaves (def.otherLine s mode l) ≡ l .so
   other-line-leaves Strict l = refl
   other-line-leaves Lenient l = refl
 
@@ -67,14 +66,14 @@ stays h k l is = record { line = is ∙ ap lineOf (sym k); buffer = rw (k, l) (i
 
 -- First bytes that are looked for only if a test fails.
 module _ (t : Bool) (v w at : ℕ) (is : v ≡ cond t at w) where
-  pub starts-not : v ≡ at → t || unmoved at w ≡ true
+  starts-not : v ≡ at → t || unmoved at w ≡ true
   starts-not h = go t is
     where
       go : (t : Bool) → v ≡ cond t at w → t || unmoved at w ≡ true
       go true e = refl
       go false e = eq-eqb w at (sym e ∙ h)
 
-  pub starts-so : (v ≡ at → ⊥) → (t || unmoved at w ≡ false) × (v ≡ w)
+  starts-so : (v ≡ at → ⊥) → (t || unmoved at w ≡ false) × (v ≡ w)
   starts-so h = go t is
     where
       go : (t : Bool) → v ≡ cond t at w → (t || unmoved at w ≡ false) × (v ≡ w)
