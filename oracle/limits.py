@@ -1,13 +1,15 @@
 #!/usr/bin/env python3
-"""Writes frames with each number of each format at its limit and beside it.
+"""Writes frames with each number of each format at its limit and beside it, and short rows of lines.
 
 Usage: limits.py >FRAMES
 
 Each number of a text has a place, marked # below. It is given every value around every limit, with and
-without leading zeros, followed by a blank or by a letter, in both modes. Rooms go from one literal too few
-to one more than is needed.
+without leading zeros, followed by a blank or by a letter, in both modes. Rooms go from none to more than is
+needed, and words that a reader stops at from 59 bytes to 62. Lines of each format come in every order, two of
+a formula and three of a log.
 """
 
+import itertools
 import sys
 
 from framed import FRAME
@@ -30,6 +32,14 @@ VALUES = [0, 1, 2, 3, 4, CEILING - 1, CEILING, CEILING + 1, 2 * CEILING + 1, 2 *
 # Texts of three literals, for room.
 ROOMS = {0: "1 -2 3 0\n", 1: "7 1 -2 3 0\n", 2: "{7} 1 -2 3 0\n", 3: "v 1 -2\nv 3 0\n"}
 
+# Lines of a format, and how many of them stand in a row.
+LINES = {
+    0: (["p cnf 2 1\n", "1 0\n", "1\n", "0\n", "c x\n", "\r\n", "1 0 2 0\n", "x\n"], 2),
+    1: (["p wcnf 2 1 3\n", "5 1 0\n", "5 1\n", "0\n", "c x\n", "\r\n", "5 1 0 2 0\n", "5\n"], 2),
+    2: (["p gcnf 2 1 1\n", "{1} 1 0\n", "{1} 1\n", "0\n", "c x\n", "\r\n", "{1}1 0 2 0\n", "{2} 1 0\n"], 2),
+    3: (["s SATISFIABLE\n", "s UNKNOWN\n", "v 1\n", "v -2 0\n", "c x\n", "x\n"], 3),
+}
+
 
 def write(format, mode, room, text):
     text = text.encode()
@@ -46,5 +56,11 @@ for mode in 0, 1:
         for room in range(5):
             write(format, mode, room, ROOMS[format])
             write(format, mode, room, ROOMS[format].replace("3", str(CEILING + 1)))
+        for length in range(59, 63):
+            write(format, mode, 8, "x" * length + "\n")
+        lines, most = LINES[format]
+        for count in range(most + 1):
+            for row in itertools.product(lines, repeat=count):
+                write(format, mode, 8, "".join(row))
 for format, mode in (4, 0), (255, 1), (0, 2), (3, 255):
     write(format, mode, 8, "1 0\n")

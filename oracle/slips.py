@@ -1,9 +1,9 @@
 #!/usr/bin/env python3
 """Shows that the vectors can fail: each wrong reader of the must-fail edits answers them, unproved.
 
-Usage: slips.py [CRATE...]
+Usage: slips.py [CRATE | CRATE/EDIT]...
 
-For each edit of the code of the named crates (those of the readers by default) a copy of the repository is
+For each edit named, or of the code of the named crates (those of the readers by default), a copy of the repository is
 edited, the program `answers` is built from it without proof and given the vectors, and the first case that it
 answers otherwise than the oracle is printed with its text. Edits that no case shows are printed as such.
 """
@@ -43,8 +43,9 @@ def main():
     cases = list(frames(ROOT / "crates/answers/stdin"))
     expected = (ROOT / "crates/answers/stdout").read_bytes()
     caught = missed = 0
-    for name in sys.argv[1:] or READERS:
-        for edit in sorted((ROOT / "crates" / name / "must-fail").glob("*.edit")):
+    for wanted in sys.argv[1:] or READERS:
+        name, _, only = wanted.partition("/")
+        for edit in sorted((ROOT / "crates" / name / "must-fail").glob(f"{only or '*'}.edit")):
             with tempfile.TemporaryDirectory() as work:
                 work = pathlib.Path(work)
                 shutil.copytree(ROOT / "crates", work / "crates")
