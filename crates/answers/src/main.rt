@@ -5,6 +5,7 @@ ghost use Prim.Native.Nat.{min};
 use clause::Next;
 use dimacs::Format;
 use dimacs::Header;
+use dimacs::LARGEST;
 use dimacs::Opening;
 use dimacs::Refusal;
 use dimacs::Verdict;
@@ -234,7 +235,7 @@ fn one(case: u64, text: &mut [u8], lits: &mut [i32]) -> bool {
 
 fn cases(text: &mut [u8], lits: &mut [i32]) {
     let mut case: u64 = 0;
-    while case < 18446744073709551615 && one(case, text, lits) {
+    while case < LARGEST && one(case, text, lits) {
         case += 1;
     }
 }

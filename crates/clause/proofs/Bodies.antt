@@ -1,6 +1,6 @@
 -- From what was read of the literals to the answer for the clause, a law for each way out; and answers that leave the buffer as it is. Assumes nothing.
 use Prim.Native.Nat.{ℕ}
-use mathlib.Core.Bool.{Bool, true, false, cond}
+use mathlib.Core.Bool.{Bool, _&&_}
 use mathlib.Core.List.{List, [], _∷_}
 use mathlib.Core.Logic.{⊎-elim}
 use mathlib.Core.Path.{_≡_, refl, ap, sym, _∙_}
@@ -17,6 +17,7 @@ use Rattle.dimacs.specs.declared.Refusal.{Refusal}
 use Rattle.dimacs.specs.declared.Int.{Int}
 use Rattle.dimacs.specs.declared.Int.the-variants as int
 use Rattle.dimacs.specs.declared.EndOfLine.the-variants as end
+use Rattle.dimacs.proofs.Tests.{chosen}
 use Rattle.dimacs.proofs.Int.{the-type}
 use Rattle.clause.specs.Answers.{literalsOf, readOf, Reads, answeredOf, refusedOf, leftBy, Answers}
 use Rattle.clause.specs.declared.Literals.the-variants.{Closed, Stopped}
@@ -73,15 +74,7 @@ refused-at s why at old e = record { answer = e; buffer = refl }
 -- So does the end, or refusal 9 in its place.
 untouched : (s : List ℕ) (permitted : Bool) (at : ℕ) (old : List ℤ) → old ≡ def.laid (leftBy (def.noClause s permitted at .answer)) old
 unfolding def.noClause
-untouched s permitted at old = go permitted (atEnd s at)
-  where
-    refuse : def.Answered
-    refuse = def.refuses s Reason.clauseExpected at []
-
-    go : (t u : Bool) → old ≡ def.laid (leftBy (cond t (cond u (def.says def.ended at) refuse) refuse .answer)) old
-    go true true = refl
-    go true false = refl
-    go false u = refl
+untouched s permitted at old = chosen (λ (a : def.Answered). old ≡ def.laid (leftBy (a .answer)) old) (permitted && atEnd s at) (λ _. refl) (λ _. refl)
 
 pub no-clause-at : (s : List ℕ) (permitted : Bool) (at : ℕ) (old : List ℤ) {r : Answered} → r ≡ answeredOf (def.noClause s permitted at) → Answers (def.noClause s permitted at) old old r
 no-clause-at s permitted at old e = record { answer = e; buffer = untouched s permitted at old }

@@ -12,10 +12,12 @@ use Rattle.clause.specs.declared.Next.{Next}
 use Rattle.clause.specs.declared.Next.the-variants as next
 use Rattle.clause.specs.declared.Answered.{Answered}
 
+-- Literals are told by their count.
 abbrev pub literalsOf : def.Literals → Literals
 literalsOf (def.closed so at) = Closed (length so) at
 literalsOf (def.stopped r so) = Stopped r (length so)
 
+-- The literals that were read.
 abbrev pub readOf : def.Literals → List ℤ
 readOf (def.closed so at) = so
 readOf (def.stopped r so) = so
@@ -37,9 +39,11 @@ leftBy (def.clause extra so) = so
 leftBy def.ended = []
 leftBy (def.refused r so) = so
 
+-- An answer and its place.
 abbrev pub answeredOf : def.Answered → Answered
 answeredOf d = record { answer = nextOf (d .answer); place = d .place }
 
+-- A refusal by its number, with so many literals before it.
 abbrev pub refusedOf : List ℕ → ℕ → ℕ → ℕ → Answered
 refusedOf s number at count = record { answer = next.Refused (numbered s number at) count; place = at }
 

@@ -130,14 +130,11 @@ fn clause_body(text: &[u8], at: usize, limits: Limits, extra: u64, lits: &mut [i
 pub fn no_clause(text: &[u8], at: usize, permitted: bool) -> Answered
     ensures { λ r. ⌜ r ≡ answeredOf (noClause (now (text .entry)) permitted at) ⌝ }
 {
-    if permitted {
-        if token::eof(text, at) {
-            return Answered {
-                answer: Next::Ended,
-                place: at,
-            };
-        }
-        return refused(text, CLAUSE_EXPECTED, at, 0);
+    if permitted && token::eof(text, at) {
+        return Answered {
+            answer: Next::Ended,
+            place: at,
+        };
     }
     refused(text, CLAUSE_EXPECTED, at, 0)
 }

@@ -1,6 +1,6 @@
 -- A clause takes at least two bytes, or one where the text ends. Assumes nothing.
 use Prim.Native.Nat.{ℕ, zero, suc, _+_, _-_, _*_, _/_, _≤_, _<_, min, max}
-use mathlib.Core.Bool.{Bool, true, false, cond}
+use mathlib.Core.Bool.{Bool, true, false, cond, _&&_}
 use mathlib.Core.List.{List, [], _∷_, _++_}
 use mathlib.Core.Path.{_≡_, refl, ap, sym, _∙_, subst}
 use native.Mathlib.Omega.{arith}
@@ -23,7 +23,7 @@ use Rattle.dimacs.specs.declared.Int.the-variants as int
 use Rattle.dimacs.specs.declared.EndOfLine.{EndOfLine}
 use Rattle.dimacs.specs.declared.EndOfLine.the-variants as end
 use Rattle.dimacs.proofs.Loops.{Leads, Falls, after, unrolled, kept}
-use Rattle.dimacs.proofs.Tests.{chosen}
+use Rattle.dimacs.proofs.Tests.{chosen, both-right}
 use Rattle.dimacs.proofs.Spans.{Spans, then-spans, Moves, then-moves, moves-then, Closes, EndCloses, end-closes, linebreaks-spans, UintMoves, uint-moves, braced-uint-moves, IntMoves, int-moves}
 
 -- What is left to a reader of literals: twice the bytes, and one more while line ends may still come.
@@ -155,8 +155,8 @@ module _ (s : List ℕ) where
   pub no-clause-onward : (endPermitted : Bool) (at : ℕ) → Onward s at (noClause s endPermitted at)
   unfolding noClause
   no-clause-onward endPermitted at =
-      chosen (Onward s at) endPermitted
-      (λ _. chosen (Onward s at) (atEnd s at) (λ e. let l = leb-true (length s) at e in omega arith) (λ _. refuses-onward Reason.clauseExpected at []))
+      chosen (Onward s at) (endPermitted && atEnd s at)
+      (λ e. let l = leb-true (length s) at (both-right endPermitted (atEnd s at) e) in omega arith)
       (λ _. refuses-onward Reason.clauseExpected at [])
 
 number-stands : {A : Type 0} (P : A → Type 0) (i : Int) {a b : A} → P a → P b → P (numberStands i a b)
@@ -208,9 +208,7 @@ module _ (s : List ℕ) (limits : Limits) (room : ℕ) where
   pub no-clause-fits : (endPermitted : Bool) (at : ℕ) → Fits room (noClause s endPermitted at)
   unfolding noClause
   no-clause-fits endPermitted at =
-      chosen (Fits room) endPermitted
-      (λ _. chosen (Fits room) (atEnd s at) (λ _. tt) (λ _. refuses-fits Reason.clauseExpected at))
-      (λ _. refuses-fits Reason.clauseExpected at)
+      chosen (Fits room) (endPermitted && atEnd s at) (λ _. tt) (λ _. refuses-fits Reason.clauseExpected at)
 
   body-fits : (extra at : ℕ) → Fits room (body s limits room extra at)
   unfolding body

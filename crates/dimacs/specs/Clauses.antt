@@ -1,6 +1,6 @@
 -- A clause of each format.
 use Prim.Native.Nat.{ℕ, suc, _+_}
-use mathlib.Core.Bool.{Bool, true, false, cond}
+use mathlib.Core.Bool.{Bool, true, false, cond, _&&_}
 use mathlib.Core.List.{List, [], _∷_, _++_}
 use lib.ListN.{length, drop}
 use lib.Dec.{leb}
@@ -94,10 +94,7 @@ module _ (s : List ℕ) where
 
   -- Where no clause stands: the end of the text if it is permitted, else refusal 9.
   unfoldable pub noClause : Bool → ℕ → Answered
-  noClause endPermitted at =
-      cond endPermitted
-      (cond (atEnd s at) (says ended at) (refuses Reason.clauseExpected at []))
-      (refuses Reason.clauseExpected at [])
+  noClause endPermitted at = cond (endPermitted && atEnd s at) (says ended at) (refuses Reason.clauseExpected at [])
 
 module _ (s : List ℕ) (limits : Limits) (room : ℕ) where
   -- A clause from its literals on.

@@ -63,6 +63,7 @@ pub record Row : Type 0 where
   pub at : ℕ
   pub so : List ℤ
 
+-- A state of reading values by its two parts.
 abbrev pub rowAt : ℕ → List ℤ → Row
 rowAt at so = record { at = at; so = so }
 

@@ -30,6 +30,7 @@ use Rattle.formula.specs.declared.Stepped.{Stepped}
 abbrev pub stateOf : Cursor → texts.Cursor
 stateOf c = texts.cursorAt (c .place) (c .count) (c .last)
 
+-- A cursor of the definition, with a format and limits, is one of the code.
 abbrev pub cursorOf : Format → Limits → texts.Cursor → Cursor
 cursorOf f limits c = record { place = c .place; limits = limits; count = c .count; format = f; last = c .final }
 
@@ -39,6 +40,7 @@ openedBy f m (opening.Header h at) = cursorOf f (limitsOf f m h) (texts.begin at
 openedBy f m (opening.NoHeader at) = cursorOf f unlimited (texts.begin at)
 openedBy f m (opening.Refused r) = cursorOf f unlimited (texts.cursorAt (r .place) 0 (final.Refused r))
 
+-- A text opened in a format and a mode.
 unfoldable pub openedAs : Format → Mode → List ℕ → Opened
 openedAs f m s = record { opening = openingOf s f; cursor = openedBy f m (openingOf s f) }
 
@@ -48,13 +50,16 @@ unknown =
     let r : Refusal = callRefusal Reason.formatOrModeUnknown 0 in
     record { opening = opening.Refused r; cursor = openedBy Plain Mode.Strict (opening.Refused r) }
 
+-- A text opened in a format, and in a mode if there is one.
 abbrev pub openedByMode : Format → Option Mode → List ℕ → Opened
 openedByMode f (some m) s = openedAs f m s
 openedByMode f none s = unknown
 
+-- A text opened in a format, by the number of a mode.
 abbrev pub openedMode : Format → ℕ → List ℕ → Opened
 openedMode f m s = openedByMode f (modeOf m) s
 
+-- A text opened in a format if there is one, by the number of a mode.
 abbrev pub openedByFormat : Option Format → ℕ → List ℕ → Opened
 openedByFormat (some f) m s = openedMode f m s
 openedByFormat none m s = unknown
@@ -73,6 +78,7 @@ settledBy c at (next.Clause extra n) = cursorOf (c .format) (c .limits) (texts.c
 settledBy c at next.Ended = cursorOf (c .format) (c .limits) (texts.cursorAt at (c .count) final.Ended)
 settledBy c at (next.Refused r n) = cursorOf (c .format) (c .limits) (texts.cursorAt at (c .count) (final.Refused r))
 
+-- An answer of the code, and the cursor after it.
 abbrev pub settledAs : Cursor → Answered → Stepped
 settledAs c a = record { answer = a .answer; cursor = settledBy c (a .place) (a .answer) }
 

@@ -32,9 +32,11 @@ pub record WordEnds (s : List ℕ) (at e : ℕ) : Type 0 where
   pub within : e ≤ length s
   pub there : e ≡ at + min longestWord (suc (run isNotStop (drop (at + 1) s)))
 
+-- The end is told by number 0 and the length of the text.
 abbrev pub readToEnd : List ℕ → Outcome
 readToEnd s = record { number = 0; place = length s }
 
+-- A refusal is told by its number and place.
 abbrev pub refusedBy : Refusal → Outcome
 refusedBy r = record { number = r .number; place = r .place }
 
@@ -45,11 +47,13 @@ outcomeBy s (def.clause extra so ∷ l) = outcomeBy s l
 outcomeBy s (def.ended ∷ l) = readToEnd s
 outcomeBy s (def.refused r so ∷ l) = refusedBy r
 
+-- What a text comes to by its opening and its answers. A refused header is the last answer.
 abbrev pub outcomeOfText : List ℕ → Opening → List def.Answer → Outcome
 outcomeOfText s (opening.Header h at) l = outcomeBy s l
 outcomeOfText s (opening.NoHeader at) l = outcomeBy s l
 outcomeOfText s (opening.Refused r) l = refusedBy r
 
+-- What a text comes to in a format and a mode, if there are such, else refusal 26.
 abbrev pub outcomeAs : List ℕ → Option Format → Option Mode → Outcome
 outcomeAs s (some f) (some m) = let t = texts.text f m ownRoom s in outcomeOfText s (t .opened) (t .answers)
 outcomeAs s (some f) none = record { number = numberOf Reason.formatOrModeUnknown; place = 0 }
@@ -65,6 +69,7 @@ outcomeAt s room c final.Open = outcomeBy s (texts.answersFrom s (c .format) (c 
 outcomeAt s room c final.Ended = readToEnd s
 outcomeAt s room c (final.Refused r) = refusedBy r
 
+-- The same, by the cursor alone.
 abbrev pub outcomeFrom : List ℕ → ℕ → Cursor → Outcome
 outcomeFrom s room c = outcomeAt s room c (c .last)
 
@@ -79,6 +84,7 @@ callBy c after (next.Clause extra n) = on c after
 callBy c after next.Ended = last c
 callBy c after (next.Refused r n) = last c
 
+-- One call from a cursor.
 abbrev pub call : List ℕ → ℕ → Cursor → Turn Cursor Call
 call s room c =
     let step = stepOf s room c in

@@ -25,13 +25,16 @@ use Rattle.sat_solver_log.specs.Answers.{logOf, leftBy}
 abbrev pub stateOf : Reading → List ℤ → def.Log
 stateOf r so = def.logAt (r .place) (r .solution) (r .assignment) so
 
+-- A state of the definition is one of the code with its literals counted.
 abbrev pub readingOf : def.Log → Reading
 readingOf l = record { place = l .at; solution = l .solution; assignment = l .assignment; count = length (l .so) }
 
+-- What a line leads to, with its literals counted.
 abbrev pub lineOf : Step def.Log def.LogAnswer → Line
 lineOf (again l) = Again (readingOf l)
 lineOf (answer a) = Answer (logOf a)
 
+-- A refusal by its number, with so many literals before it.
 abbrev pub refusedOf : List ℕ → ℕ → ℕ → ℕ → Line
 refusedOf s number at count = Answer (Refused (numbered s number at) count)
 
@@ -45,10 +48,12 @@ pub record Goes (d : Step def.Log def.LogAnswer) (old new : List ℤ) (r : Line)
   pub line : r ≡ lineOf d
   pub buffer : new ≡ laid (lineLeaves d) old
 
+-- The literals of a line are told by their count.
 abbrev pub valuesOf : def.Values → Values
 valuesOf (def.values at a so) = Row at a (length so)
 valuesOf (def.stopped r so) = Stopped r (length so)
 
+-- The literals that the literals of a line leave in the buffer.
 abbrev pub valuesLeave : def.Values → List ℤ
 valuesLeave (def.values at a so) = so
 valuesLeave (def.stopped r so) = so
@@ -58,9 +63,10 @@ pub record Reads (d : def.Values) (old new : List ℤ) (r : Values) : Type 0 whe
   pub row : r ≡ valuesOf d
   pub buffer : new ≡ laid (valuesLeave d) old
 
--- Past `v ` while no 0 has closed the assignment, and past `s ` if no solution line came; else the place itself.
+-- Past `v ` while no 0 has closed the assignment, else the place itself.
 abbrev pub valueStart : List ℕ → Assignment → ℕ → ℕ
 valueStart s a at = cond (def.isClosed a) at (fixed s (bytes "v ") at)
 
+-- Past `s ` if no solution line came, else the place itself.
 abbrev pub solutionStart : List ℕ → Solution → ℕ → ℕ
 solutionStart s solution at = cond (def.isSaid solution) at (fixed s (bytes "s ") at)

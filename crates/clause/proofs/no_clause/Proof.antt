@@ -1,4 +1,5 @@
--- `clause::no_clause` meets its contract, case by case. Assumes nothing.
+-- `clause::no_clause` meets its contract: the end where it is permitted and the text has ended, else the refusal. Assumes nothing.
+use mathlib.Core.Logic.{⊎-elim}
 use mathlib.Core.Path.{sym, _∙_}
 use Rattle.dimacs.specs.Clauses.{noClause}
 use borrow.Author.Needs.{needs}
@@ -19,18 +20,13 @@ refused-requires c κs = search needs
 
 returns-2 : tie.Need-returns-2
 unfolding noClause
-returns-2 c = let p = c .before .before .before .if1 .taken in
-    let t = sym (c .before .before .eof .ensures) ∙ c .before .if2 .left in
-    rw (p, t) (c .refused .ensures)
-
-refused-requires-2 : tie.Need-refused-requires-2
-refused-requires-2 c κs = search needs
-
-returns-3 : tie.Need-returns-3
-unfolding noClause
-returns-3 c = let p = c .before .if1 .left in rw p (c .refused2 .ensures)
+returns-2 c =
+    ⊎-elim
+    (λ x. let p = x .0 .taken in
+    let t = sym (x .1 .ensures) ∙ x .2 .left in
+    rw (p, t) (c .refused .ensures))
+    (λ x. let p = x .left in rw p (c .refused .ensures))
+    (c .before .if1 .came)
 
 pub no-clause-spec : {M : Type 1} → statement M
-no-clause-spec =
-    tie.close
-    (tie.spec eof-requires returns refused-requires returns-2 refused-requires-2 returns-3)
+no-clause-spec = tie.close (tie.spec eof-requires returns refused-requires returns-2)
