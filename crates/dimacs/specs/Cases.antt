@@ -1,7 +1,7 @@
 -- The texts on both sides of document 01, with what the definition says of each.
 use Prim.Native.Nat.{ℕ}
 use Prim.Native.String.{String}
-use mathlib.Core.List.{List, [], _∷_, map, flatMap}
+use mathlib.Core.List.{List, [], _∷_, map}
 use mathlib.Core.Path.{_≡_, refl}
 use lib.ListN.{length}
 use lib.IntN.{ℤ, pos, negsuc}
@@ -13,7 +13,7 @@ use Rattle.dimacs.specs.Header.{headerOf, headerEnd, thirdThere, thirdCo
 use Rattle.dimacs.specs.Clauses.{nextLiteral, literalsFrom, literals, Answer, clause, ended, refused, noClause, body, owed, plainAt, weightedAt, groupedAt, clauseAt}
 use Rattle.dimacs.specs.Texts.{nextClause, answerAt, turn, answersFrom, Text, text}
 use Rattle.dimacs.specs.Logs.{LogAnswer, accepted, refusedLog, nextValue, valuesFrom, valueLine, solutionLine, logLine, logFrom, log}
-use Rattle.dimacs.specs.Writing.{Written, written, unwritten, nextDigit, digits, headerLine, clauseLine, writeHeader, writeClause}
+use Rattle.dimacs.specs.Writing.{Written, written, unwritten, nextDigit, digits, items, headerLine, clauseLine, writeHeader, writeClause}
 use Rattle.dimacs.specs.declared.Format.{Format}
 use Rattle.dimacs.specs.declared.Format.the-variants.{Plain, Weighted, Grouped}
 use Rattle.dimacs.specs.declared.Mode.{Mode}
@@ -239,5 +239,5 @@ writing =
     ∷ []
 
 pub writing-holds : map (λ w. w .asked) writing ≡ map (λ w. w .comes-to) writing
-unfolding loop run nextDigit digits flatMap headerLine clauseLine writeHeader writeClause
+unfolding loop run nextDigit digits items headerLine clauseLine writeHeader writeClause
 writing-holds = refl

@@ -2,7 +2,7 @@
 use Prim.Native.Nat.{ℕ, suc, _+_, _/_, _%_}
 use Prim.Native.Char.{code}
 use mathlib.Core.Bool.{Bool, cond, _&&_}
-use mathlib.Core.List.{List, [], _∷_, _++_, flatMap}
+use mathlib.Core.List.{List, [], _∷_, _++_}
 use lib.ListN.{length}
 use lib.Dec.{ltb, leb}
 use lib.IntN.{ℤ, pos, negsuc, natAbs}
@@ -54,9 +54,18 @@ lead Plain extra = []
 lead Weighted extra = digits extra ++ bytes " "
 lead Grouped extra = bytes "{" ++ digits extra ++ bytes "} "
 
+-- A literal with the space after it.
+abbrev pub item : ℤ → List ℕ
+item l = signedDigits l ++ bytes " "
+
+-- Literals one after the other.
+unfoldable pub items : List ℤ → List ℕ
+items [] = []
+items (l ∷ so) = item l ++ items so
+
 -- The line of a clause.
 unfoldable pub clauseLine : Format → ℕ → List ℤ → List ℕ
-clauseLine f extra so = lead f extra ++ flatMap (λ l. signedDigits l ++ bytes " ") so ++ bytes "0\n"
+clauseLine f extra so = lead f extra ++ items so ++ bytes "0\n"
 
 -- What a writer comes to: the line that it wrote, or a refusal, with nothing written.
 pub data Written : Type 0 where

@@ -1,0 +1,27 @@
+-- What the writers answer, as numbers and values, and what they leave in the output.
+use Prim.Native.Nat.{ℕ}
+use mathlib.Core.List.{List, [], _++_}
+use mathlib.Core.Path.{_≡_}
+use lib.ListN.{length, drop}
+use Rattle.dimacs.specs.Writing as def
+use Rattle.writer.specs.declared.Written.{Written}
+use Rattle.writer.specs.declared.Written.the-variants.{Line, Refused}
+
+-- A line is told by its length.
+abbrev pub writtenOf : def.Written → Written
+writtenOf (def.written line) = Line (length line)
+writtenOf (def.unwritten r) = Refused r
+
+-- A refusal by its number and place.
+abbrev pub unwrittenBy : ℕ → ℕ → Written
+unwrittenBy number at = Refused (record { number = number; place = at })
+
+-- The bytes that were written.
+abbrev pub lineOf : def.Written → List ℕ
+lineOf (def.written line) = line
+lineOf (def.unwritten r) = []
+
+-- The answer, and the output after it: the line, then what it held.
+pub record Writes (d : def.Written) (old new : List ℕ) (r : Written) : Type 0 where
+  pub answer : r ≡ writtenOf d
+  pub output : new ≡ lineOf d ++ drop (length (lineOf d)) old
