@@ -80,7 +80,7 @@ module _ {s : List ℕ} {at i v : ℕ} (r : Read s at i v) where
   read-end h = record { ends = sym (r .ends) ∙ past-end isDigit s i h; value = sym (r .value) ∙ rw (drop-of-length-le s h) }
 
 -- Where no digit stands the number is 0.
-decimal-none : (v : ℕ) (r : List ℕ) → run isDigit r ≡ 0 → decimal v r ≡ v
+pub decimal-none : (v : ℕ) (r : List ℕ) → run isDigit r ≡ 0 → decimal v r ≡ v
 unfolding decimal run
 decimal-none v [] h = refl
 decimal-none v (d ∷ r) h = go (isDigit d) h

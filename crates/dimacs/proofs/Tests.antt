@@ -14,6 +14,10 @@ pub chosen : {A : Type 0} (P : A → Type 0) (t : Bool) {a b : A} → (t ≡ tru
 chosen P true f g = f refl
 chosen P false f g = g refl
 
+pub both-left : (a b : Bool) → a && b ≡ true → a ≡ true
+both-left true b h = refl
+both-left false b h = h
+
 pub both-right : (a b : Bool) → a && b ≡ true → b ≡ true
 both-right true b h = h
 both-right false b h = absurd (let z : _≡_ {A = ℕ} 0 1 = cc in omega arith)

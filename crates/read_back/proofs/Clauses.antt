@@ -1,0 +1,135 @@
+-- The line of a clause, read where it begins. Assumes nothing.
+use Prim.Native.Nat.{ℕ, _+_, _≤_}
+use Prim.Native.Char.{code}
+use mathlib.Core.Bool.{Bool, false}
+use mathlib.Core.List.{List, [], _∷_, _++_, append-assoc, append-nil}
+use mathlib.Core.Path.{_≡_, refl, ap, sym, _∙_}
+use native.Mathlib.Omega.{arith}
+use lib.ListN.{length, getD, length-append}
+use lib.IntN.{ℤ, pos, negsuc}
+use Rattle.dimacs.specs.Names.{ceiling, largest}
+use Rattle.dimacs.specs.Tokens.{intAt, numberStands}
+use Rattle.dimacs.specs.Clauses.{closed, reads, literalsFrom, literals, clause, says, body, owed, plainAt, weightedAt, groupedAt, clauseAt}
+use Rattle.dimacs.specs.Writing.{digits, signedDigits, lead, items, clauseLine}
+use Rattle.dimacs.specs.declared.Format.{Format}
+use Rattle.dimacs.specs.declared.Format.the-variants.{Plain, Weighted, Grouped}
+use Rattle.dimacs.specs.declared.Limits.{Limits}
+use Rattle.dimacs.specs.declared.Int.the-variants as int
+use Rattle.dimacs.proofs.Literals.{closes, takes}
+use Rattle.read_back.specs.ReadBack.{Each, ExtraFits, LiteralFits, ClauseFits, Clause, answerOf}
+use Rattle.read_back.proofs.Digits.{digits-write}
+use Rattle.read_back.proofs.Ends.{Ends, start, ends-past, ends-after}
+use Rattle.read_back.proofs.Tokens.{Parts, line, uint-written, braced-written, zero-written, literal-written, line-written, Bare, spaced, linebreaks-none}
+
+-- A byte with which a clause may begin.
+pub record Opener (b : ℕ) : Type 0 where
+  pub bare : Bare b
+  pub p : b ≡ 112 → ⊥
+
+pub digits-open : (n : ℕ) (t : List ℕ) → Opener (getD (digits n ++ t) 0 0)
+digits-open n t = omega (arith, digits-write n .low t, digits-write n .high t)
+
+signed-open : (l : ℤ) (t : List ℕ) → Opener (getD (signedDigits l ++ t) 0 0)
+signed-open (pos n) t = digits-open n t
+signed-open (negsuc n) t = omega arith
+
+items-more : (l : ℤ) (so : List ℤ) (t : List ℕ) → items (l ∷ so) ++ t ≡ signedDigits l ++ (code " " ∷ (items so ++ t))
+unfolding items
+items-more l so t = simp append-assoc
+
+-- Literals and the end of their clause, before what follows.
+abbrev closing : List ℤ → List ℕ → List ℕ
+closing so t = items so ++ (code "0" ∷ code "\n" ∷ t)
+
+closing-opens : (so : List ℤ) (t : List ℕ) → Opener (getD (closing so t) 0 0)
+unfolding items
+closing-opens [] t = omega arith
+closing-opens (l ∷ so) t = rw (items-more l so (48 ∷ 10 ∷ t)) (signed-open l (32 ∷ closing so t))
+
+parted : (so : List ℤ) (t : List ℕ) → Parts (code " " ∷ closing so t) (closing so t)
+parted so t = spaced (closing so t) (closing-opens so t .bare)
+
+module _ (s : List ℕ) (limit : ℕ) (low : limit ≤ ceiling) (t : List ℕ) where
+  first-zero : Ends s (closing [] t) → intAt s limit (start s (closing [] t)) ≡ int.Zero (start s (code "\n" ∷ t))
+  unfolding items
+  first-zero h = zero-written limit line h
+
+  first-literal : (l : ℤ) (so : List ℤ) → LiteralFits limit l → Ends s (closing (l ∷ so) t)
+      → intAt s limit (start s (closing (l ∷ so) t)) ≡ int.Literal l (start s (closing so t))
+  first-literal l so k =
+      rw (items-more l so (48 ∷ 10 ∷ t)) (λ h. literal-written limit l (parted so t) (omega arith) h)
+
+  rest-ends : (l : ℤ) (so : List ℤ) → Ends s (closing (l ∷ so) t) → Ends s (closing so t)
+  rest-ends l so = rw (items-more l so (48 ∷ 10 ∷ t)) (λ h. ends-after (signedDigits l) 32 (closing so t) h)
+
+  line-ends : (so : List ℤ) → Ends s (closing so t) → Ends s (code "\n" ∷ t)
+  line-ends so h = ends-after (items so) 48 (10 ∷ t) h
+
+  -- A number stands where literals begin.
+  number-first : {A : Type 0} (so : List ℤ) → Each (LiteralFits limit) so → Ends s (closing so t)
+      → (a b : A) → numberStands (intAt s limit (start s (closing so t))) a b ≡ a
+  number-first [] k h a b = rw (first-zero h)
+  number-first (l ∷ so) k h a b = rw (first-literal l so (k .0) h)
+
+  literals-written : (room : ℕ) (so done : List ℤ) → Each (LiteralFits limit) so → length done + length so ≤ room → Ends s (closing so t)
+      → literalsFrom s limit room (reads (start s (closing so t)) false done) ≡ closed (done ++ so) (start s (code "\n" ∷ t))
+  literals-written room [] done k r h = rw append-nil (closes s limit room (start s (closing [] t)) false done (first-zero h))
+  literals-written room (l ∷ so) done k r h =
+      takes s limit room (start s (closing (l ∷ so) t)) false done (first-literal l so (k .0) h) (omega arith)
+      ∙ literals-written room so (done ++ (l ∷ [])) (k .1) (simp length-append (omega arith)) (rest-ends l so h)
+      ∙ rw (append-assoc done (l ∷ []) so)
+
+-- What stands before literals and their end, before what follows.
+abbrev leading : Format → ℕ → List ℕ → List ℕ
+leading Plain extra u = u
+leading Weighted extra u = digits extra ++ (code " " ∷ u)
+leading Grouped extra u = code "{" ∷ (digits extra ++ (code "}" ∷ code " " ∷ u))
+
+lead-on : (f : Format) (extra : ℕ) (u : List ℕ) → lead f extra ++ u ≡ leading f extra u
+lead-on Plain extra u = refl
+lead-on Weighted extra u = append-assoc (digits extra) (32 ∷ []) u
+lead-on Grouped extra u = ap (λ l. 123 ∷ l) (append-assoc (digits extra) (125 ∷ 32 ∷ []) u)
+
+line-on : (f : Format) (extra : ℕ) (so : List ℤ) (t : List ℕ) → clauseLine f extra so ++ t ≡ leading f extra (closing so t)
+unfolding clauseLine
+line-on f extra so t = simp append-assoc (lead-on f extra (closing so t))
+
+pub line-opens : (f : Format) (extra : ℕ) (so : List ℤ) (t : List ℕ) → Opener (getD (clauseLine f extra so ++ t) 0 0)
+line-opens f extra so t = rw (line-on f extra so t) (go f)
+  where
+    go : (f : Format) → Opener (getD (leading f extra (closing so t)) 0 0)
+    go Plain = closing-opens so t
+    go Weighted = digits-open extra (32 ∷ closing so t)
+    go Grouped = omega arith
+
+module _ (s : List ℕ) (limits : Limits) (low : limits .literals ≤ ceiling) (room : ℕ) (extra : ℕ) (so : List ℤ) (t : List ℕ)
+    (k : Each (LiteralFits (limits .literals)) so) (few : length so ≤ room) where
+  body-written : Ends s (closing so t) → body s limits room extra (start s (closing so t)) ≡ says (clause extra so) (start s t)
+  unfolding body literals
+  body-written h =
+      rw (literals-written s (limits .literals) low t room so [] k (omega arith) h, line-written t (line-ends s (limits .literals) low t so h))
+
+  owed-written : Ends s (closing so t) → owed s limits room extra (start s (closing so t)) ≡ says (clause extra so) (start s t)
+  unfolding owed
+  owed-written h =
+      rw (linebreaks-none (closing so t) (closing-opens so t .bare) h) (number-first s (limits .literals) low t so k h _ _ ∙ body-written h)
+
+  led : (f : Format) → ExtraFits f limits extra → Ends s (leading f extra (closing so t)) → (endPermitted : Bool)
+      → clauseAt s limits room f endPermitted (start s (leading f extra (closing so t))) ≡ says (clause extra so) (start s t)
+  unfolding clauseAt plainAt weightedAt groupedAt
+  led Plain e h endPermitted =
+      number-first s (limits .literals) low t so k h _ _ ∙ ap (λ x. body s limits room x (start s (closing so t))) (sym e) ∙ body-written h
+  led Weighted e h endPermitted =
+      let u = closing so t in
+      rw (uint-written extra (32 ∷ u) h largest (parted so t) e) (owed-written (ends-after (digits extra) 32 u h))
+  led Grouped e h endPermitted =
+      let u = closing so t in
+      let k = ends-after (123 ∷ digits extra) 125 (32 ∷ u) h in
+      rw (braced-written extra (parted so t) (limits .groups) e h) (owed-written (ends-past (32 ∷ []) u k))
+
+-- The line of a clause is read as that clause.
+pub clause-written : (s : List ℕ) (f : Format) (limits : Limits) (room : ℕ) (c : Clause) (t : List ℕ) → limits .literals ≤ ceiling → ClauseFits f limits room c
+    → Ends s (clauseLine f (c .extra) (c .literals) ++ t) → (endPermitted : Bool)
+    → clauseAt s limits room f endPermitted (start s (clauseLine f (c .extra) (c .literals) ++ t)) ≡ says (answerOf c) (start s t)
+clause-written s f limits room c t low k =
+    rw (line-on f (c .extra) (c .literals) t) (led s limits low room (c .extra) (c .literals) t (k .literals) (k .few) f (k .extra))

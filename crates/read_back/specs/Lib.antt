@@ -1,0 +1,2 @@
+-- What a reader of the theorems must believe, over the written definition of reading and writing.
+pub mod ReadBack

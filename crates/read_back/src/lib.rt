@@ -1,0 +1,1 @@
+// Theorems only: what the writers' definition writes, the readers' definition reads back.
