@@ -17,8 +17,8 @@ use Rattle.dimacs.specs.declared.Uint.the-variants as uint
 use Rattle.dimacs.specs.declared.Int.{Int}
 use Rattle.dimacs.specs.declared.Int.the-variants as int
 
--- What a lent buffer holds after literals are read into it: those, then its old contents.
-abbrev pub laid : List ℤ → List ℤ → List ℤ
+-- What a lent buffer holds after something is laid into it: that, then its old contents.
+abbrev pub laid : {A : Type 0} → List A → List A → List A
 laid so old = so ++ drop (length so) old
 
 -- What a list of literals comes to: they close, at the place past the 0; or a refusal, with the literals before it.

@@ -1,8 +1,9 @@
 -- What the writers answer, as numbers and values, and what they leave in the output.
 use Prim.Native.Nat.{ℕ}
-use mathlib.Core.List.{List, [], _++_}
+use mathlib.Core.List.{List, []}
 use mathlib.Core.Path.{_≡_}
-use lib.ListN.{length, drop}
+use lib.ListN.{length}
+use Rattle.dimacs.specs.Clauses.{laid}
 use Rattle.dimacs.specs.Writing as def
 use Rattle.writer.specs.declared.Written.{Written}
 use Rattle.writer.specs.declared.Written.the-variants.{Line, Refused}
@@ -24,4 +25,4 @@ lineOf (def.unwritten r) = []
 -- The answer, and the output after it: the line, then what it held.
 pub record Writes (d : def.Written) (old new : List ℕ) (r : Written) : Type 0 where
   pub answer : r ≡ writtenOf d
-  pub output : new ≡ lineOf d ++ drop (length (lineOf d)) old
+  pub output : new ≡ laid (lineOf d) old
