@@ -6,6 +6,7 @@ use clause::Next;
 use dimacs::Format;
 use dimacs::Header;
 use dimacs::LARGEST;
+use dimacs::LOG_FORMAT;
 use dimacs::Opening;
 use dimacs::Refusal;
 use dimacs::Verdict;
@@ -13,9 +14,6 @@ use formula::Cursor;
 use libc::STDIN_FILENO;
 use libc::STDOUT_FILENO;
 use sat_solver_log::Log;
-
-// The number of logs in a frame.
-const LOG_FORMAT: u8 = 3;
 
 fn word(w: &[u8]) {
     io::write_all(STDOUT_FILENO, w);

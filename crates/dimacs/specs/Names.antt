@@ -26,7 +26,11 @@ longestWord = 60
 abbrev pub ownRoom : ℕ
 ownRoom = 1024
 
--- The format of clauses that a number names. (3 names a log.)
+-- The number that names a log.
+abbrev pub logFormat : ℕ
+logFormat = 3
+
+-- The format of clauses that a number names.
 abbrev pub formatOf : ℕ → Option Format
 formatOf n = cond (eqb n 0) (some Plain) (cond (eqb n 1) (some Weighted) (cond (eqb n 2) (some Grouped) none))
 

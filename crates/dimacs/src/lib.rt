@@ -23,6 +23,9 @@ pub enum Format {
     Grouped,
 }
 
+// The number that names a log.
+pub const LOG_FORMAT: u8 = 3;
+
 // The lenient mode applies no count of a header, and passes over log lines of no permitted kind.
 pub enum Mode {
     Strict,

@@ -1,0 +1,2 @@
+-- Laws about what a text comes to by number.
+pub mod Outcomes

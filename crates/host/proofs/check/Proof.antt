@@ -1,0 +1,23 @@
+-- `host::check` meets its contract: numbers above all bytes name nothing, as the largest byte does. Assumes nothing.
+use mathlib.Core.Path.{_∙_}
+use Rattle.host.proofs.Outcomes.{outcome-narrowed}
+use borrow.Author.Needs.{needs}
+use Rattle.host.proofs.check.Statement.{statement}
+use Rattle.host.proofs.check.Tie as tie
+
+narrowed-requires : tie.Need-narrowed-requires
+narrowed-requires c κs = search needs
+
+narrowed-requires-2 : tie.Need-narrowed-requires-2
+narrowed-requires-2 c κs = search needs
+
+read-requires : tie.Need-read-requires
+read-requires c κs = search needs
+
+returns : tie.Need-returns
+returns c = let f = c .before .before .narrowed .ensures in
+    let m = c .before .narrowed2 .ensures in
+    rw (f, m) at (c .read .ensures) ∙ outcome-narrowed _ _ _
+
+pub check-spec : {M : Type 1} → statement M
+check-spec = tie.close (tie.spec narrowed-requires narrowed-requires-2 read-requires returns)

@@ -1,0 +1,2 @@
+-- What the host calls answer.
+pub mod Outcomes

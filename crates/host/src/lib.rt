@@ -1,0 +1,76 @@
+// Whole texts checked by number, for callers in other languages: one call answers a refusal's number, the other its place.
+//
+// Each takes the numbers of a format and a mode and a byte slice, by the C calling convention. host/latchtwig.h declares them for C, host/rust for Rust.
+ghost use mathlib.Core.Path.{_≡_};
+ghost use Prim.Native.Nat.{min};
+ghost use Rattle.host.specs.Outcomes.{outcomeOfLog, outcome};
+use dimacs::LOG_FORMAT;
+use dimacs::ROOM;
+use formula::Outcome;
+use sat_solver_log::Log;
+
+// The largest byte. It names no format and no mode.
+const LARGEST_BYTE: u32 = 255;
+
+// A number as a byte. One above all bytes goes to the largest, so that it still names nothing.
+fn narrowed(n: u32) -> u8
+    ensures { λ r. ⌜ r ≡ min n 255 ⌝ }
+{
+    if n < LARGEST_BYTE {
+        return n as u8;
+    }
+    LARGEST_BYTE as u8
+}
+
+// The whole log by the number of a mode, with room for 1,024 literals in all.
+fn read_log(text: &[u8], mode: u8) -> Outcome
+    ensures { λ r. ⌜ r ≡ outcomeOfLog mode (now (text .entry)) ⌝ }
+{
+    let mut lits = [0i32; ROOM];
+    match sat_solver_log::parse_log(text, mode, &mut lits) {
+        Log::Accepted {
+            verdict: _,
+            count: _,
+        } => Outcome {
+            number: 0,
+            place: text.len(),
+        },
+        Log::Refused { refusal, count: _ } => Outcome {
+            number: refusal.number,
+            place: refusal.place,
+        },
+    }
+}
+
+// The whole text of clauses, or the whole log, by the bytes of a format and a mode.
+fn read(text: &[u8], format: u8, mode: u8) -> Outcome
+    ensures { λ r. ⌜ r ≡ outcome format mode (now (text .entry)) ⌝ }
+{
+    if format == LOG_FORMAT {
+        return read_log(text, mode);
+    }
+    formula::read_text(text, format, mode)
+}
+
+// The same by any two numbers.
+fn check(text: &[u8], format: u32, mode: u32) -> Outcome
+    ensures { λ r. ⌜ r ≡ outcome format mode (now (text .entry)) ⌝ }
+{
+    read(text, narrowed(format), narrowed(mode))
+}
+
+// The number of the refusal that the text comes to, or 0 if it is read to its end.
+#[no_mangle]
+pub extern "C" fn latchtwig_refusal(format: u32, mode: u32, text: &[u8]) -> u32
+    ensures { λ r. ⌜ r ≡ outcome format mode (now (text .entry)) .number ⌝ }
+{
+    check(text, format, mode).number as u32
+}
+
+// The place of the refusal that the text comes to, or the text's length if it is read to its end.
+#[no_mangle]
+pub extern "C" fn latchtwig_place(format: u32, mode: u32, text: &[u8]) -> u64
+    ensures { λ r. ⌜ r ≡ outcome format mode (now (text .entry)) .place ⌝ }
+{
+    check(text, format, mode).place as u64
+}
