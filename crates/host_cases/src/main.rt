@@ -1,0 +1,62 @@
+// Runs framed cases through the host calls. A frame is format, mode and length, of four bytes each, little-endian, and then so many bytes of text. Each is
+// answered by a line: the number of the refusal or 0, and its place or the text's length. A frame that is cut off, or whose text is too long, is the last.
+use libc::STDIN_FILENO;
+use libc::STDOUT_FILENO;
+
+fn word(w: &[u8]) {
+    io::write_all(STDOUT_FILENO, w);
+}
+
+fn line(number: u32, place: u64) {
+    io::print_decimal(STDOUT_FILENO, number as u64);
+    word(b" ");
+    io::print_decimal(STDOUT_FILENO, place);
+    word(b"\n");
+}
+
+fn answer(format: u32, mode: u32, text: &[u8]) {
+    let number = host::latchtwig_refusal(format, mode, text);
+    line(number, host::latchtwig_place(format, mode, text));
+}
+
+// The last line where a frame is cut off or its text too long.
+fn cut() -> bool {
+    word(b"cut\n");
+    false
+}
+
+// The rest of a case whose text fills the slice lent, and whether another may follow.
+fn case(format: u32, mode: u32, text: &mut [u8]) -> bool {
+    if io::read_full(STDIN_FILENO, text) < text.len() {
+        return cut();
+    }
+    answer(format, mode, text);
+    true
+}
+
+// One case, and whether another may follow.
+fn one() -> bool {
+    let mut frame = [0u8; 12];
+    let got = io::read_full(STDIN_FILENO, &mut frame);
+    if got == 0 {
+        return false;
+    }
+    if got < 12 {
+        return cut();
+    }
+    let format = frame::le32(frame[0], frame[1], frame[2], frame[3]);
+    let mode = frame::le32(frame[4], frame[5], frame[6], frame[7]);
+    let length = frame::le32(frame[8], frame[9], frame[10], frame[11]) as usize;
+    let mut text = io::buffer();
+    if text.len() < length {
+        return cut();
+    }
+    case(format, mode, &mut text[..length])
+}
+
+fn main() {
+    let mut turns = u64::MAX;
+    while turns > 0 && one() {
+        turns -= 1;
+    }
+}

@@ -1,0 +1,101 @@
+#!/usr/bin/env python3
+"""Writes the cases of crates/host_cases and what they must print, from the stored answers of crates/answers and not from the code.
+
+host-cases.py ANSWERS DIR: reads ANSWERS/stdin and ANSWERS/stdout, and writes DIR/stdin and DIR/stdout.
+
+A stored case names its own room for literals; the host calls have room for 1,024. More room changes nothing before a literal that lacked it. So a stored answer
+is the host's answer unless it is refusal 16, and those cases are left out. No stored text is long enough to need more than 1,024.
+
+Two kinds are added, which document 01 answers by itself: numbers that name no format or no mode, those above a byte too; and clauses and logs of 1,023 to 1,026
+literals.
+"""
+import struct
+import sys
+
+STORED = struct.Struct("<BBII")
+FRAME = struct.Struct("<III")
+ROOM = 1024
+BUFFER_FULL = 16
+UNKNOWN = 26
+
+
+def frames(path):
+    """The format, mode and text of each stored case."""
+    with open(path, "rb") as file:
+        while head := file.read(STORED.size):
+            format, mode, _, length = STORED.unpack(head)
+            text = file.read(length)
+            assert len(text) == length <= ROOM
+            yield format, mode, text
+
+
+def answers(path):
+    """The last line of each stored answer, which says how the text came out."""
+    last = None
+    with open(path, "rb") as file:
+        for line in file:
+            if line.startswith(b"case "):
+                if last is not None:
+                    yield last
+            last = line.split()
+    yield last
+
+
+def stored(where):
+    """Each stored case that is judged with any room from its own on, with its answer; and how many are not."""
+    cases, left_out = [], 0
+    for (format, mode, text), last in zip(frames(f"{where}/stdin"), answers(f"{where}/stdout"), strict=True):
+        if last[0] != b"refused":
+            assert last[0] in (b"end", b"literals")
+            cases.append((format, mode, text, 0, len(text)))
+        elif int(last[1]) == BUFFER_FULL:
+            left_out += 1
+        else:
+            cases.append((format, mode, text, int(last[1]), int(last[2])))
+    return cases, left_out
+
+
+def unknown():
+    """Numbers that name no format or no mode, beside ones that do."""
+    odd = (4, 5, 254, 255, 256, 257, 258, 259, 65535, 65536, 2**24, 2**31, 2**32 - 1)
+    for text in (b"", b"1 0\n", b"1 0 2 0\n"):
+        for n in odd:
+            for known in (0, 1):
+                yield n, known, text, UNKNOWN, 0
+            for known in (0, 1, 2, 3, 256):
+                yield known, 2 if n == 4 else n, text, UNKNOWN, 0
+
+
+def full():
+    """Clauses and logs about as long as the room: the first literal beyond it is at fault."""
+    for count in range(ROOM - 1, ROOM + 3):
+        for format, before, after in (
+            (0, b"", b"0\n"),
+            (0, b"p cnf 1 0\n", b"0"),
+            (1, b"7 ", b"0\n"),
+            (2, b"{7} ", b"0\n"),
+            (3, b"v ", b"0\n"),
+            (3, b"s SATISFIABLE\nv ", b"0\ns SATISFIABLE\n"),
+        ):
+            for mode in (0, 1):
+                text = before + b"1 " * count + after
+                if count > ROOM:
+                    yield format, mode, text, BUFFER_FULL, len(before) + 2 * ROOM
+                elif after.endswith(b"s SATISFIABLE\n") and mode == 0:
+                    yield format, mode, text, 18, len(text) - len(b"s SATISFIABLE\n")
+                else:
+                    yield format, mode, text, 0, len(text)
+
+
+def main():
+    source, target = sys.argv[1:]
+    cases, left_out = stored(source)
+    added = [*unknown(), *full()]
+    with open(f"{target}/stdin", "wb") as given, open(f"{target}/stdout", "w") as said:
+        for format, mode, text, number, place in cases + added:
+            given.write(FRAME.pack(format, mode, len(text)) + text)
+            said.write(f"{number} {place}\n")
+    print(f"{len(cases)} stored cases, {left_out} left out for their room, {len(added)} added")
+
+
+main()
