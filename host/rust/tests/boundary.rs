@@ -1,0 +1,233 @@
+//! The boundary from Rust: the stored cases, and texts at its edges.
+
+use latchtwig::{check, check_by_number, Format, Mode, Refusal};
+use std::error::Error;
+use std::{env, fs, thread};
+
+const FORMATS: [Format; 4] = [
+    Format::Plain,
+    Format::Weighted,
+    Format::Grouped,
+    Format::Log,
+];
+const MODES: [Mode; 2] = [Mode::Strict, Mode::Lenient];
+const MEGABYTE: usize = 1 << 20;
+const BUFFER_FULL: u32 = 16;
+
+/// Number and place as the two calls answer them: 0 and the length for a text read to its end.
+fn outcome(format: u32, mode: u32, text: &[u8]) -> (u32, usize) {
+    match check_by_number(format, mode, text) {
+        Ok(()) => (0, text.len()),
+        Err(refusal) => (refusal.number, refusal.place),
+    }
+}
+
+fn refused(number: u32, place: usize) -> Result<(), Refusal> {
+    Err(Refusal { number, place })
+}
+
+fn stored(path: &str) -> Vec<u8> {
+    let path = format!("{}/../../crates/{path}", env!("CARGO_MANIFEST_DIR"));
+    fs::read(&path).unwrap_or_else(|error| panic!("{path}: {error}"))
+}
+
+/// Takes so many bytes from the front.
+fn take<'a>(bytes: &mut &'a [u8], count: usize) -> &'a [u8] {
+    let (front, rest) = bytes.split_at(count);
+    *bytes = rest;
+    front
+}
+
+fn take_u32(bytes: &mut &[u8]) -> u32 {
+    u32::from_le_bytes(take(bytes, 4).try_into().unwrap())
+}
+
+/// The last line of each case of a transcript, as words.
+fn last_lines(transcript: &str) -> Vec<Vec<&str>> {
+    let cases = transcript.split("case ").skip(1);
+    cases
+        .map(|case| case.lines().last().unwrap().split(' ').collect())
+        .collect()
+}
+
+/// Every case of crates/answers. Where its own room ran out, the calls have more: they get further, and the buffer is not full.
+#[test]
+fn stored_cases() {
+    let (given, said) = (stored("answers/stdin"), stored("answers/stdout"));
+    let said = String::from_utf8(said).unwrap();
+    let lines = last_lines(&said);
+    let mut given = &given[..];
+    let mut counts = [0, 0];
+    for line in &lines {
+        let (format, mode) = (take(&mut given, 1)[0].into(), take(&mut given, 1)[0].into());
+        let _room = take_u32(&mut given);
+        let length = take_u32(&mut given) as usize;
+        let text = take(&mut given, length);
+        let found = outcome(format, mode, text);
+        if line[0] != "refused" {
+            assert_eq!(found, (0, length), "{format} {mode} {text:?}");
+            counts[0] += 1;
+            continue;
+        }
+        let (number, place) = (line[1].parse().unwrap(), line[2].parse().unwrap());
+        if number == BUFFER_FULL {
+            assert!(
+                found.0 != BUFFER_FULL && found.1 > place,
+                "{format} {mode} {text:?}: {found:?}"
+            );
+            counts[1] += 1;
+        } else {
+            assert_eq!(found, (number, place), "{format} {mode} {text:?}");
+            counts[0] += 1;
+        }
+    }
+    assert!(given.is_empty());
+    println!(
+        "{} stored answers equal, {} where the stored room was too small",
+        counts[0], counts[1]
+    );
+    assert!(counts[0] > 4000);
+}
+
+/// Every case of crates/host_cases: numbers above a byte, and clauses as long as the room, among them.
+#[test]
+fn host_cases() {
+    let (given, said) = (stored("host_cases/stdin"), stored("host_cases/stdout"));
+    let said = String::from_utf8(said).unwrap();
+    let mut given = &given[..];
+    for line in said.lines() {
+        let (format, mode, length) = (
+            take_u32(&mut given),
+            take_u32(&mut given),
+            take_u32(&mut given),
+        );
+        let text = take(&mut given, length as usize);
+        let (number, place) = outcome(format, mode, text);
+        assert_eq!(
+            format!("{number} {place}"),
+            line,
+            "{format} {mode} {text:?}"
+        );
+    }
+    assert!(given.is_empty());
+}
+
+#[test]
+fn empty_text() {
+    for format in FORMATS {
+        for mode in MODES {
+            assert_eq!(check(format, mode, b""), Ok(()));
+            assert_eq!(check(format, mode, &Vec::new()), Ok(()));
+        }
+    }
+}
+
+#[test]
+fn only_the_slice_is_read() {
+    let text = b"1 0\n1 0 2 0\n";
+    assert_eq!(check(Format::Plain, Mode::Strict, &text[..4]), Ok(()));
+    assert_eq!(
+        check(Format::Plain, Mode::Strict, &text[..9]),
+        refused(5, 8)
+    );
+    assert_eq!(check(Format::Plain, Mode::Strict, &text[..3]), Ok(()));
+    assert_eq!(
+        check(Format::Plain, Mode::Strict, &text[..1]),
+        refused(6, 1)
+    );
+}
+
+/// A line again and again, as often as it fits the length.
+fn lines(line: &str, length: usize) -> Vec<u8> {
+    line.repeat(length / line.len()).into_bytes()
+}
+
+#[test]
+fn megabytes() {
+    for (format, line) in [
+        (Format::Plain, "1 -2 3 0\n"),
+        (Format::Weighted, "5 1 -2 3 0\n"),
+        (Format::Grouped, "{7} 1 -2 3 0\n"),
+        (Format::Log, "c 1 -2 3 0\n"),
+        (Format::Plain, "c a comment\n"),
+        (Format::Plain, "\r\n"),
+        (Format::Plain, " "),
+        (Format::Plain, "1 \n0\n"),
+    ] {
+        let mut text = lines(line, MEGABYTE);
+        for mode in MODES {
+            assert_eq!(check(format, mode, &text), Ok(()), "{line:?}");
+        }
+        let length = text.len();
+        text.extend_from_slice(b"x\n");
+        let number = if format == Format::Log { 18 } else { 9 };
+        assert_eq!(
+            check(format, Mode::Strict, &text),
+            refused(number, length),
+            "{line:?}"
+        );
+    }
+}
+
+#[test]
+fn one_word_of_a_megabyte() {
+    let mut text = vec![b'9'; MEGABYTE];
+    assert_eq!(check(Format::Plain, Mode::Strict, &text), refused(15, 0));
+    assert_eq!(check(Format::Weighted, Mode::Strict, &text), refused(13, 0));
+    text.push(b'x');
+    assert_eq!(check(Format::Plain, Mode::Strict, &text), refused(9, 0));
+    text.iter_mut().for_each(|byte| *byte = b'0');
+    assert_eq!(check(Format::Plain, Mode::Strict, &text), Ok(()));
+    text.iter_mut().for_each(|byte| *byte = 0);
+    assert_eq!(check(Format::Plain, Mode::Strict, &text), refused(9, 0));
+}
+
+#[test]
+fn empty_clauses() {
+    let text = lines("0\n", 1 << 16);
+    assert_eq!(check(Format::Plain, Mode::Strict, &text), Ok(()));
+    assert_eq!(check(Format::Weighted, Mode::Strict, &text), Ok(()));
+    assert_eq!(check(Format::Grouped, Mode::Strict, &text), refused(9, 0));
+    assert_eq!(check(Format::Log, Mode::Strict, &text), refused(18, 0));
+    assert_eq!(check(Format::Log, Mode::Lenient, &text), Ok(()));
+}
+
+#[test]
+fn many_threads() {
+    let text = lines("1 -2 3 0\n", MEGABYTE / 4);
+    thread::scope(|scope| {
+        for _ in 0..8 {
+            scope.spawn(|| {
+                assert_eq!(check(Format::Plain, Mode::Strict, &text), Ok(()));
+                assert_eq!(check(Format::Grouped, Mode::Strict, &text), refused(9, 0));
+            });
+        }
+    });
+}
+
+#[test]
+fn words() {
+    let numbers: Vec<u32> = (1..20).chain([26]).collect();
+    let said: Vec<&str> = numbers
+        .iter()
+        .map(|&number| Refusal { number, place: 0 }.words())
+        .collect();
+    let other = Refusal {
+        number: 99,
+        place: 0,
+    }
+    .words();
+    for (at, words) in said.iter().enumerate() {
+        assert!(
+            words.ends_with("expected") || words.contains(" expected"),
+            "{words}"
+        );
+        assert!(*words != other && !said[..at].contains(words), "{words}");
+    }
+    let refusal: Box<dyn Error + Send + Sync> =
+        Box::new(check(Format::Log, Mode::Strict, b"v 1 -2\n").unwrap_err());
+    assert_eq!(
+        refusal.to_string(),
+        "refusal 19 at byte 7: the 0 that closes the assignment is expected"
+    );
+}
