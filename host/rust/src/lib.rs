@@ -14,8 +14,8 @@
 //! assert_eq!(refusal.to_string(), "refusal 5 at byte 4: a line end is expected");
 //! ```
 //!
-//! The readers are written in Rattle and linked as a static library for x86-64 Linux. What is proved of them: for any bytes and any two numbers they return, stay
-//! within the text, and answer what the definition says. This crate adds the two foreign calls, in one place, and the words.
+//! The readers are written in Rattle and linked as a static library for x86-64 Linux. What is proved of them: for any bytes and any two numbers they return, read
+//! only the text, and answer what the definition says, with a place within the text. This crate adds the two foreign calls, in one place, and the words.
 
 #![deny(missing_docs)]
 #![deny(unsafe_op_in_unsafe_fn)]
@@ -135,7 +135,7 @@ pub fn check_by_number(format: u32, mode: u32, text: &[u8]) -> Result<(), Refusa
         0 => Ok(()),
         number => Err(Refusal {
             number,
-            // A place is within the text.
+            // A place is at most the text's length, by `outcome-within` in crates/host/proofs/Within.antt.
             place: calls::place(format, mode, text) as usize,
         }),
     }
