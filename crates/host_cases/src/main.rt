@@ -55,8 +55,9 @@ fn one() -> bool {
 }
 
 fn main() {
-    let mut turns = u64::MAX;
-    while turns > 0 && one() {
-        turns -= 1;
+    for _ in 0..u64::MAX {
+        if !one() {
+            return;
+        }
     }
 }
