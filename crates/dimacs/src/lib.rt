@@ -16,6 +16,9 @@ pub const LONGEST_WORD: usize = 60;
 // The room for the literals of a clause where the caller lends no buffer.
 pub const ROOM: usize = 1024;
 
+// The places of a tray.
+pub const PLACES: usize = 32;
+
 // A text of clauses is plain, or each clause has a weight, or each has a group.
 pub enum Format {
     Plain,

@@ -1,0 +1,2 @@
+-- A round of waiting jobs, over any reader.
+pub mod Rota
