@@ -1,0 +1,42 @@
+-- `tray::turn` meets its contract: it is refused, or the front job is served. Assumes nothing.
+use Rattle.tray.proofs.Ring.{idle, short, turned}
+use borrow.Author.Needs.{needs}
+use Rattle.tray.proofs.turn.Statement.{statement}
+use Rattle.tray.proofs.turn.Tie as tie
+
+returns : tie.Need-returns
+returns c = idle _ _ _ (c .if1 .taken)
+
+returns-2 : tie.Need-returns-2
+returns-2 c = short _ _ _ (c .before .if1 .left) (c .if2 .taken)
+
+mul-job : tie.Need-mul-job
+mul-job c = search needs
+
+element-copy-out-job : tie.Need-element-copy-out-job
+element-copy-out-job c = search needs
+
+serve-requires : tie.Need-serve-requires
+serve-requires c κs = search needs
+
+pass-requires : tie.Need-pass-requires
+pass-requires c κs = search needs
+
+same-length : tie.Need-same-length
+same-length c = search needs
+
+returns-3 : tie.Need-returns-3
+returns-3 c = turned _ _ _ (c .before .before .before .before .before .before .if1 .left) _ _ _ (c .before .before .before .before .before .if2 .left) (c .before .before .serve .ensures) (c .pass .ensures)
+
+pub turn-spec : {M : Type 1} → statement M
+turn-spec =
+    tie.close
+    (tie.spec
+    returns
+    returns-2
+    mul-job
+    element-copy-out-job
+    serve-requires
+    pass-requires
+    same-length
+    returns-3)
