@@ -1,10 +1,11 @@
 -- A round of waiting jobs as a plain list, the calls on it, and what is counted in their answers.
 --
 -- J is a job, P what a put names, E what a turn is lent, A what the reader says.
-use Prim.Native.Nat.{ℕ, suc, _+_}
+use Prim.Native.Nat.{ℕ, zero, suc, _+_}
 use mathlib.Core.Bool.{Bool, true, false, cond}
 use mathlib.Core.List.{List, [], _∷_, _++_}
 use mathlib.Core.Option.{Option, none, some}
+use mathlib.Core.Path.{_≡_}
 use lib.ListN.{length}
 use lib.Dec.{eqb, leb}
 use Rattle.dimacs.specs.Names.{Reason, numberOf}
@@ -57,6 +58,11 @@ tickets (ticketed k ∷ xs) = k ∷ tickets xs
 tickets (told k a last ∷ xs) = tickets xs
 tickets (withdrawn k ∷ xs) = tickets xs
 
+-- So many numbers from k upward.
+abbrev pub upward : ℕ → ℕ → List ℕ
+upward k zero = []
+upward k (suc n) = k ∷ upward (k + 1) n
+
 -- How many verdicts were answered.
 abbrev pub verdicts : {A : Type 0} → List (Answer A) → ℕ
 verdicts [] = 0
@@ -73,6 +79,14 @@ withdrawals (refused n ∷ xs) = withdrawals xs
 withdrawals (ticketed k ∷ xs) = withdrawals xs
 withdrawals (told k a last ∷ xs) = withdrawals xs
 withdrawals (withdrawn k ∷ xs) = suc (withdrawals xs)
+
+-- Whether a withdrawal of the ticket was accepted.
+abbrev pub isWithdrawn : {A : Type 0} → ℕ → List (Answer A) → Bool
+isWithdrawn k [] = false
+isWithdrawn k (refused n ∷ xs) = isWithdrawn k xs
+isWithdrawn k (ticketed n ∷ xs) = isWithdrawn k xs
+isWithdrawn k (told n a last ∷ xs) = isWithdrawn k xs
+isWithdrawn k (withdrawn n ∷ xs) = cond (eqb k n) true (isWithdrawn k xs)
 
 -- How many turns were accepted.
 abbrev pub turns : {A : Type 0} → List (Answer A) → ℕ
@@ -100,6 +114,27 @@ toTheLast (a ∷ b ∷ l) = (a, false) ∷ toTheLast (b ∷ l)
 abbrev pub concluded : {A : Type 0} → List (A × Bool) → Bool
 concluded [] = false
 concluded (x ∷ l) = cond (x .1) true (concluded l)
+
+-- If the call was a turn of the ticket's own, what it was lent has a property.
+abbrev pub AtOwnTurn : {P E A : Type 0} → (E → Type 0) → ℕ → Call P E → Answer A → Type 0
+AtOwnTurn F k (put p) x = Unit {0}
+AtOwnTurn F k (withdraw n) x = Unit {0}
+AtOwnTurn F k (turn e) (refused n) = Unit {0}
+AtOwnTurn F k (turn e) (ticketed n) = Unit {0}
+AtOwnTurn F k (turn e) (told n a last) = n ≡ k → F e
+AtOwnTurn F k (turn e) (withdrawn n) = Unit {0}
+
+-- What each turn of the ticket's own was lent has a property.
+abbrev pub AtOwnTurns : {P E A : Type 0} → (E → Type 0) → ℕ → List (Call P E) → List (Answer A) → Type 0
+AtOwnTurns F k [] xs = Unit {0}
+AtOwnTurns F k (c ∷ cs) [] = Unit {0}
+AtOwnTurns F k (c ∷ cs) (x ∷ xs) = AtOwnTurn F k c x × AtOwnTurns F k cs xs
+
+-- What was said so far of a text are the first of all its answers; once the verdict is among them, they are all.
+pub record Hears {A : Type 0} (whole : List A) (so-far : List (A × Bool)) : Type 0 where
+  pub rest : List (A × Bool)
+  pub first : toTheLast whole ≡ so-far ++ rest
+  pub all : concluded so-far ≡ true → so-far ≡ toTheLast whole
 
 -- The jobs that wait, from the front on, and how many tickets were given.
 pub record Round (J : Type 0) : Type 0 where

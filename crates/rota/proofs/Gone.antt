@@ -1,0 +1,70 @@
+-- A ticket that was given and does not wait never waits again, and no turn is its: so it is after its verdict. Assumes nothing.
+use Prim.Native.Nat.{ℕ, _+_, _≤_}
+use mathlib.Core.Bool.{Bool, true, false}
+use mathlib.Core.List.{List, [], _∷_, _++_}
+use mathlib.Core.Logic.{_⊎_, inl, inr, ⊎-elim}
+use mathlib.Core.Path.{_≡_, refl, sym, _∙_}
+use native.Mathlib.Omega.{arith}
+use borrow.Author.Tests.{ne-eqb, eqb-true}
+use lib.Dec.{eqb}
+use Rattle.dimacs.proofs.Tests.{tested}
+use Rattle.rota.specs.Rota.{Call, Answer, Done, answers, finally, heard, concluded, Round, fresh, Desk, waits, call}
+use Rattle.rota.proofs.Calls.{Does, nothing, enters, goes, ends, leaves, call-does}
+use Rattle.rota.proofs.Account.{unlike}
+use Rattle.rota.proofs.Tickets.{Lawful, Sound, not-head, not-tail, waits-snoc, waits-without, sound-call, sound}
+
+module _ {J P E A : Type 0} (D : Desk J P E A) (k : ℕ) where
+  pub record Gone (t : Round J) : Type 0 where
+    pub away : waits (D .ticket) k (t .waiting) ≡ false
+    pub was-given : k ≤ t .given
+
+  -- The call says nothing to the ticket.
+  abbrev Silent : Answer A → Type 0
+  Silent a = (xs : List (Answer A)) → heard k (a ∷ xs) ≡ heard k xs
+
+module _ {J P E A : Type 0} (D : Desk J P E A) (L : Lawful D) (k : ℕ) where
+  gone-after : {t : Round J} {c : Call P E} {d : Done (Round J) A} → Does D t c d → Gone D k t → Gone D k (d .after) × Silent D k (d .answer)
+  gone-after (nothing n) g = (g, λ xs. refl)
+  gone-after (enters {js = js} {n = n} {p = p} make e l) g =
+      let m = L .made p make e (n + 1) in
+      let h = g .was-given in
+      (record { away = waits-snoc (D .ticket) k js _ (g .away) (ne-eqb k (D .ticket (make (n + 1))) (λ x. omega arith)); was-given = omega arith }, λ xs. refl)
+  gone-after (goes {js = js} {e = x} j j′ e) g =
+      let n = not-head (D .ticket) k j js (g .away) in
+      (record { away = waits-snoc (D .ticket) k js j′ (not-tail (D .ticket) k j js (g .away)) (rw (L .kept j x j′ e) n); was-given = g .was-given }, λ xs. rw n)
+  gone-after (ends {js = js} j e) g =
+      let n = not-head (D .ticket) k j js (g .away) in
+      (record { away = not-tail (D .ticket) k j js (g .away); was-given = g .was-given }, λ xs. rw n)
+  gone-after (leaves {js = js} {k = m} w) g = (record { away = waits-without (D .ticket) k m js (g .away); was-given = g .was-given }, λ xs. refl)
+
+  pub gone-on : (t : Round J) (cs : List (Call P E)) → Gone D k t → heard k (answers (call D) t cs) ≡ []
+  gone-on t [] g = refl
+  gone-on t (c ∷ cs) g =
+      let h = gone-after (call-does D t c) g in
+      h .1 (answers (call D) (call D t c .after) cs) ∙ gone-on (call D t c .after) cs (h .0)
+
+  -- Past a verdict's ticket, or the verdict is still to come.
+  after-verdict : {t : Round J} {c : Call P E} {d : Done (Round J) A} (xs : List (Answer A)) → Does D t c d → Sound D t
+      → concluded (heard k (d .answer ∷ xs)) ≡ true → Gone D k (d .after) ⊎ (concluded (heard k xs) ≡ true)
+  after-verdict xs (nothing n) s h = inr h
+  after-verdict xs (enters make e l) s h = inr h
+  after-verdict xs (goes j j′ e) s h = tested (eqb k (D .ticket j)) (λ x. inr (rw x at h)) (λ x. inr (rw x at h))
+  after-verdict xs (ends {js = js} j e) s h =
+      tested (eqb k (D .ticket j))
+      (λ x. let m = eqb-true k (D .ticket j) x in inl (record { away = rw m (s .distinct .0); was-given = rw m (s .upto .0) }))
+      (λ x. inr (rw x at h))
+  after-verdict xs (leaves w) s h = inr h
+
+  gone-finally : (t : Round J) (cs : List (Call P E)) → Gone D k t → Gone D k (finally (call D) t cs)
+  gone-finally t [] g = g
+  gone-finally t (c ∷ cs) g = gone-finally (call D t c .after) cs (gone-after (call-does D t c) g .0)
+
+  verdict-gone : (t : Round J) (cs : List (Call P E)) → Sound D t → concluded (heard k (answers (call D) t cs)) ≡ true → Gone D k (finally (call D) t cs)
+  verdict-gone t [] s h = unlike h refl
+  verdict-gone t (c ∷ cs) s h =
+      let u = call D t c .after in
+      ⊎-elim (λ g. gone-finally u cs g) (λ r. verdict-gone u cs (sound-call D L t c s) r) (after-verdict (answers (call D) u cs) (call-does D t c) s h)
+
+  -- After its verdict no turn answers a ticket.
+  pub no-more : (before after : List (Call P E)) → concluded (heard k (answers (call D) fresh before)) ≡ true → heard k (answers (call D) (finally (call D) fresh before) after) ≡ []
+  no-more before after h = gone-on (finally (call D) fresh before) after (verdict-gone fresh before (sound D L []) h)
