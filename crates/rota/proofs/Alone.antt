@@ -1,22 +1,27 @@
 -- What a ticket hears is what its job is told alone, by whom it is served as if it were alone at each of its own turns. Assumes nothing.
-use Prim.Native.Nat.{ℕ, zero, suc, _+_, _≤_, _<_}
+use Prim.Native.Nat.{ℕ}
 use mathlib.Core.Bool.{Bool, true, false}
-use mathlib.Core.List.{List, [], _∷_, _++_}
-use mathlib.Core.Option.{Option, none, some}
+use mathlib.Core.List.{List, [], _∷_}
+use mathlib.Core.Option.{none, some}
 use mathlib.Core.Path.{_≡_, refl, ap, sym, _∙_, subst}
 use native.Mathlib.Omega.{arith}
-use Rattle.rota.specs.Rota.{Call, turn, Answer, told, Done, answers, heard, toTheLast, concluded, isWithdrawn, AtOwnTurn, AtOwnTurns, Hears, Round, Served, Desk, call}
+use Rattle.rota.specs.Rota.{Call, turn, Answer, told, answers, heard, toTheLast, isWithdrawn, AtOwnTurn, AtOwnTurns, Hears, Round, Served, serves, Desk, call}
 use Rattle.rota.proofs.Account.{unlike}
 use Rattle.rota.proofs.Tickets.{Lawful, Sound, sound-call}
 use Rattle.rota.proofs.Gone.{gone-on}
-use Rattle.rota.proofs.Fair.{Stands, Fate, stays, moves, finishes, fate, not-withdrawn, heard-own}
+use Rattle.rota.proofs.Fair.{Stands, stays, moves, finishes, fate, not-withdrawn, heard-own}
 
 -- All that a job is told, by a function that serves it alone.
 pub data Whole {J A : Type 0} (solo : J → Served J A) : J → List A → Type 0 where
-  last : {j : J} → solo j .goes ≡ none → Whole solo j (solo j .said ∷ [])
-  more : {j j′ : J} {a : A} {l : List A} → solo j .goes ≡ some j′ → Whole solo j′ (a ∷ l) → Whole solo j (solo j .said ∷ a ∷ l)
+  last : {j : J} {a : A} → solo j ≡ serves a none → Whole solo j (a ∷ [])
+  more : {j j′ : J} {a b : A} {l : List A} → solo j ≡ serves a (some j′) → Whole solo j′ (b ∷ l) → Whole solo j (a ∷ b ∷ l)
 
 module _ {J A : Type 0} (solo : J → Served J A) where
+  -- It is told something.
+  pub whole-more : {j j′ : J} {a : A} {l : List A} → solo j ≡ serves a (some j′) → Whole solo j′ l → Whole solo j (a ∷ l)
+  whole-more e (last f) = more e (last f)
+  whole-more e (more f w) = more e (more f w)
+
   -- What follows where the job goes on.
   record Rest (j j′ : J) (l : List A) : Type 0 where
     head : A
@@ -24,14 +29,16 @@ module _ {J A : Type 0} (solo : J → Served J A) where
     is : l ≡ solo j .said ∷ head ∷ tail
     whole : Whole solo j′ (head ∷ tail)
 
-  whole-more : {j : J} {l : List A} (j′ : J) → solo j .goes ≡ some j′ → Whole solo j l → Rest j j′ l
-  whole-more j′ g (last n) = let z : _≡_ {A = ℕ} 0 1 = cc in absurd (omega arith)
-  whole-more j′ g (more {j′ = x} {a = a} {l = r} n w) =
-      let same : x ≡ j′ = cc in record { head = a; tail = r; is = refl; whole = subst (λ y. Whole solo y (a ∷ r)) same w }
+  whole-rest : {j : J} {l : List A} (j′ : J) → solo j .goes ≡ some j′ → Whole solo j l → Rest j j′ l
+  whole-rest j′ g (last e) = let f = ap (λ v. v .goes) e in let z : _≡_ {A = ℕ} 0 1 = cc in absurd (omega arith)
+  whole-rest j′ g (more {j′ = x} {a = a} {b = b} {l = r} e w) =
+      let f = ap (λ v. v .goes) e in
+      let same : x ≡ j′ = cc in
+      record { head = b; tail = r; is = ap (λ y. y ∷ b ∷ r) (sym (ap (λ v. v .said) e)); whole = subst (λ y. Whole solo y (b ∷ r)) same w }
 
   whole-last : {j : J} {l : List A} → solo j .goes ≡ none → Whole solo j l → l ≡ solo j .said ∷ []
-  whole-last g (last n) = refl
-  whole-last g (more n w) = let z : _≡_ {A = ℕ} 0 1 = cc in absurd (omega arith)
+  whole-last g (last e) = ap (λ y. y ∷ []) (sym (ap (λ v. v .said) e))
+  whole-last g (more e w) = let f = ap (λ v. v .goes) e in let z : _≡_ {A = ℕ} 0 1 = cc in absurd (omega arith)
 
 own-turn : {P E A : Type 0} (F : E → Type 0) (k : ℕ) {c : Call P E} {x : Answer A} (e : E) (a : A) (b : Bool) → c ≡ turn e → x ≡ told k a b → AtOwnTurn F k c x → F e
 own-turn F k e a b i h o = (rw (i, h) at o) refl
@@ -54,7 +61,7 @@ module _ {J P E A : Type 0} (D : Desk J P E A) (L : Lawful D) (Good : J → Type
         | moves e j′ q i g st′ a ↦
             let same = L .kept j e j′ g in
             let own = alike j e gd (own-turn Fit k e (D .serve j e .said) false i a (o .0)) in
-            let r = whole-more solo j′ (rw (← own) g) w in
+            let r = whole-rest solo j′ (rw (← own) g) w in
             let ih = alone cs (d .after) j′ q (r .head ∷ r .tail) (lasts j e j′ gd g) s′ st′ (r .whole) (rw same (v .1)) (rw same (o .1)) in
             hears-more k (solo j .said) (r .head) (r .tail) l xs (d .answer) (a ∙ ap (λ x. told k (x .said) false) own) (r .is)
             (subst (λ n. Hears (r .head ∷ r .tail) (heard n xs)) same ih)

@@ -1,15 +1,14 @@
 -- The four things that a call can do. Assumes nothing.
 use Prim.Native.Nat.{ℕ, _+_, _<_}
-use mathlib.Core.Bool.{Bool, true, false, cond}
+use mathlib.Core.Bool.{true, false}
 use mathlib.Core.List.{List, [], _∷_, _++_}
 use mathlib.Core.Option.{Option, none, some}
 use mathlib.Core.Path.{_≡_, refl}
 use borrow.Author.Tests.{leb-false}
 use lib.ListN.{length}
 use lib.Dec.{leb}
-use Rattle.dimacs.specs.Names.{Reason, numberOf}
-use Rattle.dimacs.proofs.Tests.{tested, chosen}
-use Rattle.rota.specs.Rota.{Call, put, turn, withdraw, refused, ticketed, told, withdrawn, Done, does, Round, round, Entry, bad, good, Desk, waits, without, putBy, went, turnBy, withdrawBy, call}
+use Rattle.dimacs.proofs.Tests.{chosen}
+use Rattle.rota.specs.Rota.{Call, put, turn, withdraw, refused, ticketed, told, withdrawn, Done, does, Round, round, Entry, bad, good, Desk, waits, without, putBy, went, turnBy, call}
 
 module _ {J P E A : Type 0} (D : Desk J P E A) where
   -- It is refused and changes nothing; a put gives the next ticket; the front job is served, and goes to the back or leaves; a ticket leaves.

@@ -1,20 +1,20 @@
 -- Each turn brings a waiting job nearer to the front, and each time that it is served it has fewer turns left: so its verdict comes. Assumes nothing.
 use Prim.Native.Nat.{ℕ, zero, suc, _+_, _*_, _≤_, _<_}
-use mathlib.Core.Bool.{Bool, true, false, cond}
+use mathlib.Core.Bool.{Bool, true, false}
 use mathlib.Core.List.{List, [], _∷_, _++_}
 use mathlib.Core.Option.{none, some}
-use mathlib.Core.Path.{_≡_, refl, ap, sym, _∙_, subst}
+use mathlib.Core.Path.{_≡_, refl, ap, sym, subst}
 use native.Mathlib.Omega.{arith}
 use native.Mathlib.Nat.{mul-le-mul-left, mul-suc}
 use borrow.Author.Tests.{eq-eqb, ne-eqb}
-use lib.ListN.{length, length-append}
+use lib.ListN.{length}
 use lib.Dec.{eqb}
 use Rattle.dimacs.proofs.Tests.{tested}
-use Rattle.rota.specs.Rota.{Call, put, turn, Answer, refused, ticketed, told, withdrawn, Done, answers, finally, turns, heard, concluded, isWithdrawn, Round, fresh, good, Desk, waits, without, call}
+use Rattle.rota.specs.Rota.{Call, put, turn, Answer, refused, ticketed, told, withdrawn, Done, answers, turns, heard, concluded, isWithdrawn, Round, good, Desk, waits, without, call}
 use Rattle.rota.proofs.Calls.{Does, nothing, enters, goes, ends, leaves, call-does}
-use Rattle.rota.proofs.Account.{unlike, length-snoc}
-use Rattle.rota.proofs.Tickets.{Lawful, Distinct, UpTo, Sound, sound-call, sound}
-use Rattle.rota.proofs.Gone.{Gone, gone-on}
+use Rattle.rota.proofs.Account.{unlike}
+use Rattle.rota.proofs.Tickets.{Lawful, Distinct, UpTo, Sound, sound-call}
+use Rattle.rota.proofs.Gone.{Gone}
 
 -- The job stands in the list, with p jobs ahead of it.
 pub data Stands {J : Type 0} (j : J) : ℕ → List J → Type 0 where

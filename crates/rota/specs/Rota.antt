@@ -155,6 +155,10 @@ pub record Served (J A : Type 0) : Type 0 where
   pub said : A
   pub goes : Option J
 
+-- Serving by its two parts.
+abbrev pub serves : {J A : Type 0} → A → Option J → Served J A
+serves a o = record { said = a; goes = o }
+
 -- How many places there are, and the largest ticket; a job's ticket; what a put comes to; whether the buffer lent to a turn is too short; and what
 -- serving a job comes to.
 pub record Desk (J P E A : Type 0) : Type 0 where

@@ -1,15 +1,14 @@
 -- The two loops of a withdrawal: how many stand before a ticket, and those behind it move up. Assumes nothing.
-use Prim.Native.Nat.{ℕ, zero, suc, _+_, _-_, _%_, _≤_, _<_}
+use Prim.Native.Nat.{ℕ, suc, _+_, _-_, _%_, _≤_, _<_}
 use mathlib.Core.List.{List, _∷_}
-use mathlib.Core.Path.{_≡_, refl, sym, _∙_}
+use mathlib.Core.Path.{_≡_, sym, _∙_}
 use native.Mathlib.Omega.{arith}
 use borrow.Author.Tests.{eq-eqb, ne-eqb, lt-ltb, le-ltb}
-use lib.ListN.{length, getD, set}
+use lib.ListN.{getD, set}
 use Rattle.dimacs.specs.Names.{Reason, numberOf, places}
 use Rattle.tray.specs.Ring.{ring, noJob, few, ahead, movedUp, closedUp, withdrawAt, withdrawOf}
 use Rattle.tray.specs.declared.Job.{Job}
 use Rattle.tray.specs.declared.Tray.{Tray}
-use Rattle.tray.specs.declared.WithdrawDone.{WithdrawDone}
 use Rattle.tray.specs.declared.WithdrawAnswer.the-variants.{Refused, Withdrawn}
 
 module _ (k : ℕ) (js : List Job) (h n : ℕ) where

@@ -1,2 +1,3 @@
--- The tray as a ring of jobs, and what its calls promise.
+-- The tray as a ring of jobs, and what its answers say.
 pub mod Ring
+pub mod Answers

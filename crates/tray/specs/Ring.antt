@@ -28,7 +28,6 @@ use Rattle.tray.specs.declared.Job.{Job}
 use Rattle.tray.specs.declared.Tray.{Tray}
 use Rattle.tray.specs.declared.Named.{Named}
 use Rattle.tray.specs.declared.Named.the-variants as named
-use Rattle.tray.specs.declared.PutAnswer.{PutAnswer}
 use Rattle.tray.specs.declared.PutAnswer.the-variants as putting
 use Rattle.tray.specs.declared.PutDone.{PutDone}
 use Rattle.tray.specs.declared.Said.{Said}
@@ -36,10 +35,8 @@ use Rattle.tray.specs.declared.Said.the-variants as said
 use Rattle.tray.specs.declared.Goes.{Goes}
 use Rattle.tray.specs.declared.Goes.the-variants.{On, Over}
 use Rattle.tray.specs.declared.Served.{Served}
-use Rattle.tray.specs.declared.TurnAnswer.{TurnAnswer}
 use Rattle.tray.specs.declared.TurnAnswer.the-variants as turning
 use Rattle.tray.specs.declared.TurnDone.{TurnDone}
-use Rattle.tray.specs.declared.WithdrawAnswer.{WithdrawAnswer}
 use Rattle.tray.specs.declared.WithdrawAnswer.the-variants as withdrawing
 use Rattle.tray.specs.declared.WithdrawDone.{WithdrawDone}
 

@@ -91,7 +91,7 @@ pub struct PutDone {
 }
 
 // What the numbers of a format and a mode name: nothing that the tray takes, or the stage in which a job begins.
-enum Named {
+pub enum Named {
     Unknown,
     Begins(Stage),
 }
@@ -179,15 +179,15 @@ pub enum Said {
 }
 
 // Whether a job goes on, with its cursor.
-enum Goes {
+pub enum Goes {
     On(Cursor),
     Over,
 }
 
 // What was said to a job, and how it goes on.
-struct Served {
-    said: Said,
-    goes: Goes,
+pub struct Served {
+    pub said: Said,
+    pub goes: Goes,
 }
 
 fn opened(o: Opened) -> Served

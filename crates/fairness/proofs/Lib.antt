@@ -1,0 +1,5 @@
+-- Why the tray keeps its promises.
+pub mod Rings
+pub mod Desk
+pub mod Reader
+pub mod Promises

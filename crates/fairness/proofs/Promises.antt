@@ -1,0 +1,168 @@
+-- The tray keeps its promises: what holds of the round holds of the record, over any calls from the fresh one. Assumes nothing.
+use Prim.Native.Nat.{ℕ, _+_, _-_, _%_, _≤_, _<_}
+use mathlib.Core.List.{[], _∷_}
+use mathlib.Core.Option.{some}
+use mathlib.Core.Path.{_≡_, refl, ap, sym, _∙_, subst}
+use native.Mathlib.Omega.{arith}
+use lib.ListN.{length, length-set}
+use lib.Dec.{leb, ltb, eqb}
+use Rattle.dimacs.specs.Names.{formatOf, modeOf, largest, ownRoom, places}
+use Rattle.dimacs.specs.declared.Format.{Format}
+use Rattle.dimacs.specs.declared.Mode.{Mode}
+use Rattle.dimacs.proofs.Tests.{tested}
+use Rattle.rota.specs.Rota as rota
+use Rattle.rota.specs.Rota.{Call, put, turn, withdraw, ticketed, Done, does, answers, finally, heard, Round, fresh}
+use Rattle.rota.proofs.Account.{account, in-order}
+use Rattle.rota.proofs.Tickets.{Sound, sound, sound-call}
+use Rattle.rota.proofs.Gone.{no-more}
+use Rattle.rota.proofs.Fair.{Stands, entered, fair}
+use Rattle.rota.proofs.Alone.{alone}
+use Rattle.tray.specs.declared.Stage.the-variants as stage
+use Rattle.tray.specs.declared.Job.{Job}
+use Rattle.tray.specs.declared.Tray.{Tray}
+use Rattle.tray.specs.declared.Named.{Named}
+use Rattle.tray.specs.declared.Named.the-variants as named
+use Rattle.tray.specs.declared.Goes.{Goes}
+use Rattle.tray.specs.declared.Goes.the-variants.{On, Over}
+use Rattle.tray.specs.declared.Said.{Said}
+use Rattle.tray.specs.Ring.{emptyTray, few, waiting, behind, front, within, Put, putBy, namedBy, jobOf, entered as enteredAs, Reply, serve, servedOf, goesOn, wentBy, turnOf, ahead, withdrawOf}
+use Rattle.fairness.specs.Promises.{Lent, Calls, did, answered, left, thenPut, since, Holds, saidAlone, Account, Tickets, Few, Bound, Content, Demand, Silence}
+use Rattle.fairness.proofs.Rings.{length-moved}
+use Rattle.fairness.proofs.Desk.{view, desk, call-is}
+use Rattle.fairness.proofs.Reader.{leftOf, falls, Named-by, lasts, Begins, entry-begins, lawful, solo, alike, whole}
+
+-- A tray keeps all its places.
+length-put : (t : Tray) (p : Put) (x : Named) → length (putBy t p x .tray .jobs) ≡ length (t .jobs)
+unfolding enteredAs
+length-put t p named.Unknown = refl
+length-put t p (named.Begins s) =
+    tested (within (p .start) (p .length) (p .lent))
+    (λ w. tested (leb places (t .count)) (λ a. rw (w, a))
+    (λ a. tested (leb largest (t .given)) (λ b. rw (w, a, b))
+    (λ b. rw (w, a, b) (length-set (t .jobs) (behind t (t .count)) (jobOf (t .given + 1) (p .start) (p .length) s)))))
+    (λ w. rw w)
+
+length-went : (t : Tray) (a : Said) (g : Goes) → length (wentBy t a g .tray .jobs) ≡ length (t .jobs)
+length-went t a (On c) = length-set (t .jobs) (behind t (few t)) (goesOn (front t) c)
+length-went t a Over = refl
+
+length-call : (t : Tray) (c : Call Put Lent) → length (did t c .after .jobs) ≡ length (t .jobs)
+unfolding turnOf withdrawOf
+length-call t (put p) = length-put t p (namedBy (formatOf (p .format)) (modeOf (p .mode)))
+length-call t (turn e) =
+    tested (eqb (t .count) 0) (λ a. rw a)
+    (λ a. tested (ltb (length (e .buffer)) ownRoom) (λ b. rw (a, b))
+    (λ b. rw (a, b) (let v = servedOf (serve (e .area) (front t)) in length-went t (v .said) (v .goes))))
+length-call t (withdraw k) =
+    let i = ahead k (waiting t) in
+    tested (ltb i (few t)) (λ a. rw a (length-moved (few t - (i + 1)) (t .jobs) (t .head % places) i)) (λ a. rw a)
+
+-- Any calls on a record are those calls on the round for which it stands.
+answers-are : (cs : Calls) (t : Tray) → length (t .jobs) ≡ places → answers did t cs ≡ answers (rota.call desk) (view t) cs
+answers-are [] t l = refl
+answers-are (c ∷ cs) t l =
+    let e = call-is t l c in
+    let r = answers-are cs (did t c .after) (length-call t c ∙ l) in
+    rw r (ap (λ d. d .answer ∷ answers (rota.call desk) (d .after) cs) e)
+
+finally-is : (cs : Calls) (t : Tray) → length (t .jobs) ≡ places → view (finally did t cs) ≡ finally (rota.call desk) (view t) cs
+finally-is [] t l = refl
+finally-is (c ∷ cs) t l = finally-is cs (did t c .after) (length-call t c ∙ l) ∙ ap (λ d. finally (rota.call desk) (d .after) cs) (call-is t l c)
+
+length-finally : (cs : Calls) (t : Tray) → length (t .jobs) ≡ places → length (finally did t cs .jobs) ≡ places
+length-finally [] t l = l
+length-finally (c ∷ cs) t l = length-finally cs (did t c .after) (length-call t c ∙ l)
+
+empty-places : length (emptyTray .jobs) ≡ places
+unfolding emptyTray
+empty-places = refl
+
+empty-fresh : view emptyTray ≡ fresh
+unfolding emptyTray
+empty-fresh = refl
+
+answered-are : (cs : Calls) → answered cs ≡ answers (rota.call desk) fresh cs
+answered-are cs = answers-are cs emptyTray empty-places ∙ ap (λ v. answers (rota.call desk) v cs) empty-fresh
+
+left-is : (cs : Calls) → view (left cs) ≡ finally (rota.call desk) fresh cs
+left-is cs = finally-is cs emptyTray empty-places ∙ ap (λ v. finally (rota.call desk) v cs) empty-fresh
+
+left-places : (cs : Calls) → length (left cs .jobs) ≡ places
+left-places cs = length-finally cs emptyTray empty-places
+
+pub tray-account : Account
+tray-account cs = let w = ap (λ v. length (v .waiting)) (left-is cs) in rw (answered-are cs) (omega (arith, account desk cs))
+
+pub tray-tickets : Tickets
+tray-tickets cs = rw (answered-are cs) (in-order desk cs)
+
+pub tray-few : Few
+tray-few cs = subst (λ v. length (v .waiting) ≤ places) (sym (left-is cs)) (sound desk lawful cs .few)
+
+pub tray-silence : Silence
+tray-silence before after k h =
+    ap (heard k) (answers-are after (left before) (left-places before) ∙ ap (λ v. answers (rota.call desk) v after) (left-is before))
+    ∙ no-more desk lawful k before after (rw (answered-are before) at h)
+
+-- A put that is given a ticket, after any calls, and the round after it.
+module _ (before : Calls) (p : Put) where
+  abbrev then : Done (Round Job) Reply
+  then = rota.call desk (finally (rota.call desk) fresh before) (put p)
+
+  then-is : does (thenPut before p .answer) (view (thenPut before p .after)) ≡ then
+  then-is = call-is (left before) (left-places before) (put p) ∙ ap (λ v. rota.call desk v (put p)) (left-is before)
+
+  since-are : (after : Calls) → since before p after ≡ answers (rota.call desk) (then .after) after
+  since-are after =
+      answers-are after (thenPut before p .after) (length-call (left before) (put p) ∙ left-places before)
+      ∙ ap (λ d. answers (rota.call desk) (d .after) after) then-is
+
+  then-sound : Sound desk (then .after)
+  then-sound = sound-call desk lawful (finally (rota.call desk) fresh before) (put p) (sound desk lawful before)
+
+  -- Its job stands last, before its first turn.
+  record Waits (k : ℕ) : Type 0 where
+    format : Format
+    mode : Mode
+    format-known : formatOf (p .format) ≡ some format
+    mode-known : modeOf (p .mode) ≡ some mode
+    ahead-of : ℕ
+    below : ahead-of < places
+    stands : Stands (jobOf k (p .start) (p .length) (stage.Fresh format mode)) ahead-of (then .after .waiting)
+
+  then-waits : (k : ℕ) → thenPut before p .answer ≡ ticketed k → Waits k
+  then-waits k h =
+      let n = entered desk (finally (rota.call desk) fresh before) p k (sym (ap (λ d. d .answer) then-is) ∙ h) in
+      let b = entry-begins p (n .made .0) (n .made .1) in
+      record {
+        format = b .format;
+        mode = b .mode;
+        format-known = b .format-known;
+        mode-known = b .mode-known;
+        ahead-of = n .ahead;
+        below = n .few;
+        stands = subst (λ j. Stands j (n .ahead) (then .after .waiting)) (n .made .2 ∙ ap (λ f. f k) (b .is)) (n .stands);
+      }
+
+pub tray-bound : Bound
+tray-bound before p after k h w n =
+    let a = then-waits before p k h in
+    let e = since-are before p after in
+    rw e
+    (fair desk lawful leftOf falls after (then before p .after) (jobOf k (p .start) (p .length) (stage.Fresh (a .format) (a .mode))) (a .ahead-of)
+    (then-sound before p) (a .stands) (rw e at w) (omega (arith, a .below, rw e at n)))
+
+pub tray-content : Content
+tray-content before p after k f m bytes hf hm h w o =
+    let a = then-waits before p k h in
+    let e = since-are before p after in
+    let i : a .format ≡ f = let q = a .format-known in cc in
+    let j : a .mode ≡ m = let q = a .mode-known in cc in
+    let job = jobOf k (p .start) (p .length) (stage.Fresh f m) in
+    let s : Stands job (a .ahead-of) (then before p .after .waiting) = rw (i, j) at (a .stands) in
+    rw e
+    (alone desk lawful (Named-by p) (Holds p bytes) (solo bytes) (lasts p) (alike bytes p) after (then before p .after) job (a .ahead-of) (saidAlone f m bytes)
+    (refl, refl) (then-sound before p) s (whole bytes k (p .start) (p .length) f m) (rw e at w) (rw e at o))
+
+pub tray-demand : Demand
+tray-demand before p after k f m bytes hf hm h w o n = tray-content before p after k f m bytes hf hm h w o .all (tray-bound before p after k h w n)

@@ -1,0 +1,2 @@
+-- What the tray promises.
+pub mod Promises

@@ -1,0 +1,100 @@
+-- What the tray promises over any calls from a fresh one, each on the tray that the last one left, each turn with its own lent area and buffer.
+use Prim.Native.Nat.{ℕ, _+_, _*_, _/_, _≤_}
+use mathlib.Core.Bool.{true, false}
+use mathlib.Core.List.{List, [], _∷_, map}
+use mathlib.Core.Option.{some}
+use mathlib.Core.Path.{_≡_}
+use lib.ListN.{length, take, drop}
+use lib.IntN.{ℤ}
+use Rattle.dimacs.specs.Names.{formatOf, modeOf, ownRoom, places}
+use Rattle.dimacs.specs.Texts.{text}
+use Rattle.dimacs.specs.declared.Format.{Format}
+use Rattle.dimacs.specs.declared.Mode.{Mode}
+use Rattle.rota.specs.Rota.{Call, put, turn, withdraw, Answer, ticketed, Done, does, answers, finally, tickets, upward, verdicts, withdrawals, isWithdrawn, turns, heard, toTheLast, concluded, AtOwnTurns, Hears}
+use Rattle.tray.specs.declared.Tray.{Tray}
+use Rattle.tray.specs.Ring.{emptyTray, waiting, Put, putOf, Reply, opening, answering, turnOf, bufferOf, withdrawOf}
+use Rattle.tray.specs.Answers.{putSays, turnSays, withdrawSays}
+
+-- What a turn is lent.
+pub record Lent : Type 0 where
+  pub area : List ℕ
+  pub buffer : List ℤ
+
+abbrev pub Calls : Type 0
+Calls = List (Call Put Lent)
+
+-- A call on a tray record: what its answer says, and the record that it leaves, as the contracts of `put`, `turn` and `withdraw` have them.
+abbrev pub did : Tray → Call Put Lent → Done Tray Reply
+did t (put p) = let d = putOf t p in does (putSays (d .answer)) (d .tray)
+did t (turn e) =
+    let d = turnOf t (e .area) (length (e .buffer)) in does (turnSays (bufferOf t (e .area) (e .buffer)) (d .answer)) (d .tray)
+did t (withdraw k) = let d = withdrawOf t k in does (withdrawSays (d .answer)) (d .tray)
+
+module _ (calls : Calls) where
+  -- The answers of calls from a fresh tray.
+  abbrev pub answered : List (Answer Reply)
+  answered = answers did emptyTray calls
+
+  -- The tray that they leave.
+  abbrev pub left : Tray
+  left = finally did emptyTray calls
+
+-- Tickets given equal verdicts answered plus withdrawals accepted plus jobs waiting.
+abbrev pub Account : Type 0
+Account = (calls : Calls) → let xs = answered calls in length (tickets xs) ≡ verdicts xs + withdrawals xs + length (waiting (left calls))
+
+-- The first ticket given is 1, and each later one is one more than the one before.
+abbrev pub Tickets : Type 0
+Tickets = (calls : Calls) → let xs = answered calls in tickets xs ≡ upward 1 (length (tickets xs))
+
+-- Never more jobs wait than there are places.
+abbrev pub Few : Type 0
+Few = (calls : Calls) → length (waiting (left calls)) ≤ places
+
+module _ (before : Calls) (p : Put) where
+  -- A put after some calls.
+  abbrev pub thenPut : Done Tray Reply
+  thenPut = did (left before) (put p)
+
+  -- The answers of the calls after it.
+  abbrev pub since : Calls → List (Answer Reply)
+  since after = answers did (thenPut .after) after
+
+-- A job of n bytes that is not withdrawn gets its verdict within 32 x (2 + (n + 1) / 2) accepted turns after its put, whatever those turns are lent.
+abbrev pub Bound : Type 0
+Bound =
+    (before : Calls) (p : Put) (after : Calls) (k : ℕ) → thenPut before p .answer ≡ ticketed k → isWithdrawn k (since before p after) ≡ false
+    → places * (2 + (p .length + 1) / 2) ≤ turns (since before p after) → concluded (heard k (since before p after)) ≡ true
+
+-- The part of the lent area that a put names is these bytes.
+pub record Holds (p : Put) (bytes : List ℕ) (e : Lent) : Type 0 where
+  pub within : p .start + p .length ≤ length (e .area)
+  pub same : take (p .length) (drop (p .start) (e .area)) ≡ bytes
+
+-- All that is said of a text read alone: its opening, then its answers up to the end or a refusal.
+abbrev pub saidAlone : Format → Mode → List ℕ → List Reply
+saidAlone f m bytes = let t = text f m ownRoom bytes in opening (t .opened) ∷ map answering (t .answers)
+
+-- What a job's ticket hears, with literals, weights and groups, is what is said of its bytes read alone, from the first on; and all of it once the
+-- verdict is heard; if it is not withdrawn and its bytes are in the area lent to each of its own turns.
+abbrev pub Content : Type 0
+Content =
+    (before : Calls) (p : Put) (after : Calls) (k : ℕ) (f : Format) (m : Mode) (bytes : List ℕ)
+    → formatOf (p .format) ≡ some f → modeOf (p .mode) ≡ some m
+    → thenPut before p .answer ≡ ticketed k → isWithdrawn k (since before p after) ≡ false
+    → AtOwnTurns (Holds p bytes) k after (since before p after)
+    → Hears (saidAlone f m bytes) (heard k (since before p after))
+
+-- Both: after so many turns, its ticket has heard exactly what is said of its bytes read alone, the last as its verdict.
+abbrev pub Demand : Type 0
+Demand =
+    (before : Calls) (p : Put) (after : Calls) (k : ℕ) (f : Format) (m : Mode) (bytes : List ℕ)
+    → formatOf (p .format) ≡ some f → modeOf (p .mode) ≡ some m
+    → thenPut before p .answer ≡ ticketed k → isWithdrawn k (since before p after) ≡ false
+    → AtOwnTurns (Holds p bytes) k after (since before p after)
+    → places * (2 + (p .length + 1) / 2) ≤ turns (since before p after)
+    → heard k (since before p after) ≡ toTheLast (saidAlone f m bytes)
+
+-- After its verdict no turn answers a ticket.
+abbrev pub Silence : Type 0
+Silence = (before after : Calls) (k : ℕ) → concluded (heard k (answered before)) ≡ true → heard k (answers did (left before) after) ≡ []
