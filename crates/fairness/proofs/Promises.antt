@@ -1,11 +1,12 @@
 -- The tray keeps its promises: what holds of the round holds of the record, over any calls from the fresh one. Assumes nothing.
 use Prim.Native.Nat.{ℕ, _+_, _-_, _%_, _≤_, _<_}
-use mathlib.Core.List.{[], _∷_}
+use mathlib.Core.List.{List, [], _∷_}
 use mathlib.Core.Option.{some}
 use mathlib.Core.Path.{_≡_, refl, ap, sym, _∙_, subst}
 use native.Mathlib.Omega.{arith}
 use lib.ListN.{length, length-set}
 use lib.Dec.{leb, ltb, eqb}
+use lib.IntN.{ℤ}
 use Rattle.dimacs.specs.Names.{formatOf, modeOf, largest, ownRoom, places}
 use Rattle.dimacs.specs.declared.Format.{Format}
 use Rattle.dimacs.specs.declared.Mode.{Mode}
@@ -25,11 +26,18 @@ use Rattle.tray.specs.declared.Named.the-variants as named
 use Rattle.tray.specs.declared.Goes.{Goes}
 use Rattle.tray.specs.declared.Goes.the-variants.{On, Over}
 use Rattle.tray.specs.declared.Said.{Said}
-use Rattle.tray.specs.Ring.{emptyTray, few, waiting, behind, front, within, Put, putBy, namedBy, jobOf, entered as enteredAs, Reply, serve, servedOf, goesOn, wentBy, turnOf, ahead, withdrawOf}
+use Rattle.tray.specs.Ring.{emptyTray, few, waiting, behind, front, within, Put, putBy, namedBy, jobOf, entered as enteredAs, Reply, serve, servedOf, goesOn, wentBy, turnOf, Turns, ahead, withdrawOf}
+use Rattle.tray.specs.declared.TurnDone.{TurnDone}
+use Rattle.tray.specs.Answers.{turnSays}
 use Rattle.fairness.specs.Promises.{Lent, Calls, did, answered, left, thenPut, since, Holds, saidAlone, Account, Tickets, Few, Bound, Content, Demand, Silence}
 use Rattle.fairness.proofs.Rings.{length-moved}
 use Rattle.fairness.proofs.Desk.{view, desk, call-is}
 use Rattle.fairness.proofs.Reader.{leftOf, falls, Named-by, lasts, Begins, entry-begins, lawful, solo, alike, whole}
+
+-- Whatever keeps the contract of `turn` is the turn of which the promises speak.
+pub turn-did : {t : Tray} {area : List ℕ} {old new : List ℤ} {r : TurnDone} → Turns t area old new r
+    → does (turnSays new (r .answer)) (r .tray) ≡ did t (turn (record { area = area; buffer = old }))
+turn-did h = rw (h .done, h .buffer)
 
 -- A tray keeps all its places.
 length-put : (t : Tray) (p : Put) (x : Named) → length (putBy t p x .tray .jobs) ≡ length (t .jobs)

@@ -180,6 +180,10 @@ module _ {J : Type 0} (ticket : J → ℕ) where
   without k [] = []
   without k (j ∷ js) = cond (eqb k (ticket j)) js (j ∷ without k js)
 
+-- A job goes to the back.
+abbrev pub toBack : {J : Type 0} → List J → J → List J
+toBack js j = js ++ j ∷ []
+
 -- A refused call changes nothing.
 abbrev pub refuses : {J A : Type 0} → Round J → Reason → Done (Round J) A
 refuses t why = does (refused (numberOf why)) t
@@ -191,12 +195,12 @@ module _ {J P E A : Type 0} (D : Desk J P E A) where
   putBy t (good make) =
       let k = t .given + 1 in
       cond (leb (D .places) (length (t .waiting))) (refuses t Reason.trayFull)
-      (cond (leb (D .largest) (t .given)) (refuses t Reason.ticketsUsedUp) (does (ticketed k) (round (t .waiting ++ make k ∷ []) k)))
+      (cond (leb (D .largest) (t .given)) (refuses t Reason.ticketsUsedUp) (does (ticketed k) (round (toBack (t .waiting) (make k)) k)))
 
   -- A served job leaves, or goes to the back.
   abbrev pub went : ℕ → List J → ℕ → A → Option J → Done (Round J) A
   went n js k a none = does (told k a true) (round js n)
-  went n js k a (some j) = does (told k a false) (round (js ++ j ∷ []) n)
+  went n js k a (some j) = does (told k a false) (round (toBack js j) n)
 
   -- A turn: the front job is served.
   abbrev pub turnBy : E → ℕ → List J → Done (Round J) A

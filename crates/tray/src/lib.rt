@@ -190,6 +190,7 @@ pub struct Served {
     pub goes: Goes,
 }
 
+// A job served by an opening: a refused header is its verdict.
 fn opened(o: Opened) -> Served
     ensures { λ r. ⌜ r ≡ openingServed o ⌝ }
 {
@@ -212,16 +213,17 @@ fn opened(o: Opened) -> Served
     }
 }
 
+// A job served by a call for the next clause: the end, or a refusal, is its verdict.
 fn stepped(s: Stepped) -> Served
     ensures { λ r. ⌜ r ≡ stepServed s ⌝ }
 {
     let answer = s.answer;
-    let cursor = s.cursor;
+    let after = s.cursor;
     let said = Said::Next(answer);
     match answer {
         Next::Clause { extra: _, count: _ } => Served {
             said,
-            goes: Goes::On(cursor),
+            goes: Goes::On(after),
         },
         Next::Ended => Served {
             said,
@@ -237,7 +239,7 @@ fn stepped(s: Stepped) -> Served
     }
 }
 
-// A job's own text: opened at its first turn, asked for the next clause at each later one.
+// A job's text is opened at its first turn, and asked for the next clause at each later one.
 fn read(stage: Stage, text: &[u8], lits: &mut [i32]) -> Served
     ensures { λ r. ⌜ Serves (serving (now (text .entry)) (list.length (now (lits .entry))) stage) (now (lits .entry)) (now (lits .exit)) r ⌝ }
 {
@@ -247,7 +249,7 @@ fn read(stage: Stage, text: &[u8], lits: &mut [i32]) -> Served
     }
 }
 
-// A job served: its part of the area, cut from the middle, with the first places of the buffer.
+// A job is served on its own part of the area, with the first places of the buffer. A part outside the area is refused.
 fn serve(job: Job, area: &[u8], lits: &mut [i32]) -> Served
     requires { ⌜ ownRoom ≤ list.length (now lits) ⌝ }
     ensures { λ r. ⌜ Serves (ring.serve (now (area .entry)) job) (now (lits .entry)) (now (lits .exit)) r ⌝ }
@@ -259,14 +261,12 @@ fn serve(job: Job, area: &[u8], lits: &mut [i32]) -> Served
         let end = start + length;
         return read(stage, &area[start..end], &mut lits[..ROOM]);
     }
+    let refusal = Refusal {
+        number: PART_OUTSIDE_AREA,
+        place: 0,
+    };
     Served {
-        said: Said::Next(Next::Refused {
-            refusal: Refusal {
-                number: PART_OUTSIDE_AREA,
-                place: 0,
-            },
-            count: 0,
-        }),
+        said: Said::Next(Next::Refused { refusal, count: 0 }),
         goes: Goes::Over,
     }
 }
@@ -293,13 +293,13 @@ fn few(count: usize) -> usize
     PLACES
 }
 
-// The front job, served, to the back, or out.
+// The front job goes to the back, or leaves.
 fn pass(mut tray: Tray, served: Served) -> TurnDone
     requires { ⌜ 0 < tray .count ⌝ }
     ensures { λ r. ⌜ r ≡ went tray served ⌝ }
 {
     let head = tray.head % PLACES;
-    let count = few(tray.count);
+    let waiting = few(tray.count);
     let job = tray.jobs[head];
     let ticket = job.ticket;
     let said = served.said;
@@ -307,14 +307,14 @@ fn pass(mut tray: Tray, served: Served) -> TurnDone
     tray.head = (head + 1) % PLACES;
     match goes {
         Goes::On(cursor) => {
-            let back = (head + count) % PLACES;
+            let back = (head + waiting) % PLACES;
             tray.jobs[back] = Job {
                 ticket,
                 start: job.start,
                 length: job.length,
                 stage: Stage::Reading(cursor),
             };
-            tray.count = count;
+            tray.count = waiting;
             TurnDone {
                 tray,
                 answer: TurnAnswer::Told {
@@ -325,7 +325,7 @@ fn pass(mut tray: Tray, served: Served) -> TurnDone
             }
         }
         Goes::Over => {
-            tray.count = count - 1;
+            tray.count = waiting - 1;
             TurnDone {
                 tray,
                 answer: TurnAnswer::Told {
@@ -338,7 +338,7 @@ fn pass(mut tray: Tray, served: Served) -> TurnDone
     }
 }
 
-// The front job's turn: its literals are left in the buffer, of which it uses the first 1,024 places.
+// The front job's turn. The buffer then holds the literals read, and after them what it held.
 pub fn turn(tray: Tray, area: &[u8], lits: &mut [i32]) -> TurnDone
     ensures { λ r. ⌜ Turns tray (now (area .entry)) (now (lits .entry)) (now (lits .exit)) r ⌝ }
 {
@@ -372,7 +372,7 @@ pub struct WithdrawDone {
     pub answer: WithdrawAnswer,
 }
 
-// How many of the first `count` jobs stand before the one with the ticket.
+// How many of the first `count` jobs stand before the one with the ticket, or `count`.
 fn find(tray: Tray, count: usize, ticket: u64) -> usize
     requires { ⌜ count ≤ places ⌝ }
     ensures { λ r. ⌜ r ≡ ahead ticket (ring.ring (tray .jobs) (tray .head) count) ⌝ }
