@@ -16,7 +16,8 @@ use Rattle.rota.specs.Rota.{Call, put, turn, withdraw, ticketed, Done, does, an
 use Rattle.rota.proofs.Account.{account, in-order}
 use Rattle.rota.proofs.Tickets.{Sound, sound, sound-call}
 use Rattle.rota.proofs.Gone.{no-more}
-use Rattle.rota.proofs.Fair.{Stands, entered, fair}
+use Rattle.rota.proofs.Waiting.{Stands}
+use Rattle.rota.proofs.Fair.{entered, fair}
 use Rattle.rota.proofs.Alone.{alone}
 use Rattle.tray.specs.declared.Stage.the-variants as stage
 use Rattle.tray.specs.declared.Job.{Job}
@@ -32,7 +33,7 @@ use Rattle.tray.specs.Answers.{turnSays}
 use Rattle.fairness.specs.Promises.{Lent, Calls, did, answered, left, thenPut, since, Holds, saidAlone, Account, Tickets, Few, Bound, Content, Demand, Silence}
 use Rattle.fairness.proofs.Rings.{length-moved}
 use Rattle.fairness.proofs.Desk.{view, desk, call-is}
-use Rattle.fairness.proofs.Reader.{leftOf, falls, Named-by, lasts, Begins, entry-begins, lawful, solo, alike, whole}
+use Rattle.fairness.proofs.Reader.{leftOf, falls, PartOf, lasts, Begins, entry-begins, lawful, solo, alike, whole}
 
 -- Whatever keeps the contract of `turn` is the turn of which the promises speak.
 pub turn-did : {t : Tray} {area : List ℕ} {old new : List ℤ} {r : TurnDone} → Turns t area old new r
@@ -169,7 +170,7 @@ tray-content before p after k f m bytes hf hm h w o =
     let job = jobOf k (p .start) (p .length) (stage.Fresh f m) in
     let s : Stands job (a .ahead-of) (then before p .after .waiting) = rw (i, j) at (a .stands) in
     rw e
-    (alone desk lawful (Named-by p) (Holds p bytes) (solo bytes) (lasts p) (alike bytes p) after (then before p .after) job (a .ahead-of) (saidAlone f m bytes)
+    (alone desk lawful (PartOf p) (Holds p bytes) (solo bytes) (lasts p) (alike bytes p) after (then before p .after) job (a .ahead-of) (saidAlone f m bytes)
     (refl, refl) (then-sound before p) s (whole bytes k (p .start) (p .length) f m) (rw e at w) (rw e at o))
 
 pub tray-demand : Demand

@@ -88,12 +88,12 @@ falls j e j′ h =
     subst (λ x. leftOf x < leftOf j) (sym (g .is))
     (subst (λ n. leftBy n (stage.Reading (g .cursor)) < leftBy n (j .stage)) (g .size) (serving-falls (part j (e .area)) (j .stage) (g .cursor) (g .served)))
 
--- The part of the area that a job names is the put's.
-abbrev pub Named-by : Put → Job → Type 0
-Named-by p j = (j .start ≡ p .start) × (j .length ≡ p .length)
+-- A job names the put's part of the area.
+abbrev pub PartOf : Put → Job → Type 0
+PartOf p j = (j .start ≡ p .start) × (j .length ≡ p .length)
 
-pub lasts : (p : Put) (j : Job) (e : Lent) (j′ : Job) → Named-by p j → desk .serve j e .goes ≡ some j′ → Named-by p j′
-lasts p j e j′ o h = subst (Named-by p) (sym (serve-goes j e j′ h .is)) o
+pub lasts : (p : Put) (j : Job) (e : Lent) (j′ : Job) → PartOf p j → desk .serve j e .goes ≡ some j′ → PartOf p j′
+lasts p j e j′ o h = subst (PartOf p) (sym (serve-goes j e j′ h .is)) o
 
 -- A put that makes a job names a format and a mode, in which the job begins.
 pub record Begins (p : Put) (make : ℕ → Job) : Type 0 where
@@ -132,7 +132,7 @@ module _ (bytes : List ℕ) where
   abbrev pub solo : Job → Served Job Reply
   solo j = servedBy j (serving bytes ownRoom (j .stage))
 
-  pub alike : (p : Put) (j : Job) (e : Lent) → Named-by p j → Holds p bytes e → desk .serve j e ≡ solo j
+  pub alike : (p : Put) (j : Job) (e : Lent) → PartOf p j → Holds p bytes e → desk .serve j e ≡ solo j
   unfolding serve
   alike p j e o h =
       let w : within (j .start) (j .length) (length (e .area)) ≡ true = rw (o .0, o .1) (le-leb (p .start + p .length) (length (e .area)) (h .within)) in
@@ -141,12 +141,12 @@ module _ (bytes : List ℕ) where
 
 module _ (bytes : List ℕ) (k start size : ℕ) (f : Format) where
   -- The job between two turns.
-  abbrev at : Limits → texts.Cursor → Job
-  at limits c = jobOf k start size (stage.Reading (cursorOf f limits c))
+  abbrev between : Limits → texts.Cursor → Job
+  between limits c = jobOf k start size (stage.Reading (cursorOf f limits c))
 
   -- What it is told from a cursor on.
   whole-from : (limits : Limits) (n : ℕ) (c : texts.Cursor) → toCome bytes (c .place) < n
-      → Whole (solo bytes) (at limits c) (map answering (texts.answersFrom bytes f limits ownRoom c))
+      → Whole (solo bytes) (between limits c) (map answering (texts.answersFrom bytes f limits ownRoom c))
   unfolding serving texts.turn
   whole-from limits zero c h = absurd (omega arith)
   whole-from limits (suc n) c h =
@@ -156,10 +156,10 @@ module _ (bytes : List ℕ) (k start size : ℕ) (f : Format) where
       (told (d .place) (d .answer) refl (leads bytes ownRoom x) (λ y l. whole-from limits n y l))
     where
       told : (e : ℕ) (a : def.Answer)
-          → solo bytes (at limits c) ≡ serves (answering a) (goesBy (at limits c) (nextGoes (settledBy (cursorOf f limits c) e (nextOf a)) (nextOf a)))
+          → solo bytes (between limits c) ≡ serves (answering a) (goesBy (between limits c) (nextGoes (settledBy (cursorOf f limits c) e (nextOf a)) (nextOf a)))
           → Leads bytes ownRoom (cursorOf f limits c) (settledBy (cursorOf f limits c) e (nextOf a)) (nextOf a)
-          → ((y : texts.Cursor) → toCome bytes (y .place) < n → Whole (solo bytes) (at limits y) (map answering (texts.answersFrom bytes f limits ownRoom y)))
-          → Whole (solo bytes) (at limits c) (map answering (andOn (texts.turnBy (texts.settledBy c e a) a) (texts.answersFrom bytes f limits ownRoom)))
+          → ((y : texts.Cursor) → toCome bytes (y .place) < n → Whole (solo bytes) (between limits y) (map answering (texts.answersFrom bytes f limits ownRoom y)))
+          → Whole (solo bytes) (between limits c) (map answering (andOn (texts.turnBy (texts.settledBy c e a) a) (texts.answersFrom bytes f limits ownRoom)))
       told e (def.clause extra so) q l ih = whole-more (solo bytes) q (ih (texts.settledBy c e (def.clause extra so)) (omega (arith, l .1)))
       told e def.ended q l ih = last q
       told e (def.refused r so) q l ih = last q
@@ -171,7 +171,7 @@ module _ (bytes : List ℕ) (k start size : ℕ) (f : Format) where
       job : Job
       job = jobOf k start size (stage.Fresh f m)
 
-      from : (limits : Limits) (p : ℕ) → Whole (solo bytes) (at limits (texts.begin p)) (map answering (texts.answersFrom bytes f limits ownRoom (texts.begin p)))
+      from : (limits : Limits) (p : ℕ) → Whole (solo bytes) (between limits (texts.begin p)) (map answering (texts.answersFrom bytes f limits ownRoom (texts.begin p)))
       from limits p = whole-from limits (suc (toCome bytes p)) (texts.begin p) (omega arith)
 
       go : (o : Opening) → solo bytes job ≡ serves (opening o) (goesBy job (openingGoes (openedBy f m o) o))

@@ -1,26 +1,12 @@
 -- Over any calls, tickets given equal verdicts answered plus withdrawals accepted plus jobs waiting, and they go from 1 upward. Assumes nothing.
-use Prim.Native.Nat.{ℕ, suc, _+_}
-use mathlib.Core.Bool.{Bool, true, false}
-use mathlib.Core.List.{List, [], _∷_, _++_}
+use Prim.Native.Nat.{_+_}
+use mathlib.Core.List.{List, [], _∷_}
 use mathlib.Core.Path.{_≡_, refl, ap}
 use native.Mathlib.Omega.{arith}
-use native.Mathlib.Numerals.{add-one}
-use lib.ListN.{length, length-append}
-use lib.Dec.{eqb}
-use Rattle.dimacs.proofs.Tests.{tested}
-use Rattle.rota.specs.Rota.{Call, Answer, Done, answers, finally, tickets, upward, verdicts, withdrawals, Round, fresh, Desk, waits, without, call}
+use lib.ListN.{length}
+use Rattle.rota.specs.Rota.{Call, Answer, Done, answers, finally, tickets, upward, verdicts, withdrawals, Round, fresh, Desk, call}
+use Rattle.rota.proofs.Waiting.{length-snoc, length-without}
 use Rattle.rota.proofs.Calls.{Does, nothing, enters, goes, ends, leaves, call-does}
-
-pub unlike : {P : Type 0} {b : Bool} → b ≡ true → b ≡ false → P
-unlike p q = let z : _≡_ {A = ℕ} 0 1 = cc in absurd (omega arith)
-
-pub length-snoc : {J : Type 0} (js : List J) (j : J) → length (js ++ j ∷ []) ≡ suc (length js)
-length-snoc js j = rw (length-append, add-one)
-
-pub length-without : {J : Type 0} (ticket : J → ℕ) (k : ℕ) (js : List J) → waits ticket k js ≡ true → length js ≡ suc (length (without ticket k js))
-length-without ticket k [] h = unlike h refl
-length-without ticket k (j ∷ js) h =
-    tested (eqb k (ticket j)) (λ e. rw e) (λ e. rw e (ap suc (length-without ticket k js (rw e at h))))
 
 module _ {J P E A : Type 0} (D : Desk J P E A) where
   -- The tickets given and what became of them, between two rounds.

@@ -1,4 +1,4 @@
--- What a ticket hears is what its job is told alone, by whom it is served as if it were alone at each of its own turns. Assumes nothing.
+-- What a ticket hears is what its job is told alone, if each of its own turns serves it as if it were alone. Assumes nothing.
 use Prim.Native.Nat.{ℕ}
 use mathlib.Core.Bool.{Bool, true, false}
 use mathlib.Core.List.{List, [], _∷_}
@@ -6,10 +6,10 @@ use mathlib.Core.Option.{none, some}
 use mathlib.Core.Path.{_≡_, refl, ap, sym, _∙_, subst}
 use native.Mathlib.Omega.{arith}
 use Rattle.rota.specs.Rota.{Call, turn, Answer, told, answers, heard, toTheLast, isWithdrawn, AtOwnTurn, AtOwnTurns, Hears, Round, Served, serves, Desk, call}
-use Rattle.rota.proofs.Account.{unlike}
+use Rattle.rota.proofs.Waiting.{unlike, Stands}
 use Rattle.rota.proofs.Tickets.{Lawful, Sound, sound-call}
 use Rattle.rota.proofs.Gone.{gone-on}
-use Rattle.rota.proofs.Fair.{Stands, stays, moves, finishes, fate, not-withdrawn, heard-own}
+use Rattle.rota.proofs.Fair.{stays, moves, finishes, fate, not-withdrawn, heard-own}
 
 -- All that a job is told, by a function that serves it alone.
 pub data Whole {J A : Type 0} (solo : J → Served J A) : J → List A → Type 0 where

@@ -1,58 +1,20 @@
 -- Each turn brings a waiting job nearer to the front, and each time that it is served it has fewer turns left: so its verdict comes. Assumes nothing.
 use Prim.Native.Nat.{ℕ, zero, suc, _+_, _*_, _≤_, _<_}
 use mathlib.Core.Bool.{Bool, true, false}
-use mathlib.Core.List.{List, [], _∷_, _++_}
+use mathlib.Core.List.{List, [], _∷_}
 use mathlib.Core.Option.{none, some}
 use mathlib.Core.Path.{_≡_, refl, ap, sym, subst}
 use native.Mathlib.Omega.{arith}
 use native.Mathlib.Nat.{mul-le-mul-left, mul-suc}
-use borrow.Author.Tests.{eq-eqb, ne-eqb}
+use borrow.Author.Tests.{eq-eqb}
 use lib.ListN.{length}
 use lib.Dec.{eqb}
 use Rattle.dimacs.proofs.Tests.{tested}
-use Rattle.rota.specs.Rota.{Call, put, turn, Answer, refused, ticketed, told, withdrawn, Done, answers, turns, heard, concluded, isWithdrawn, Round, good, Desk, waits, without, call}
+use Rattle.rota.specs.Rota.{Call, put, turn, Answer, refused, ticketed, told, withdrawn, Done, answers, turns, heard, concluded, isWithdrawn, Round, good, Desk, call}
+use Rattle.rota.proofs.Waiting.{unlike, Stands, front, behind, stands-append, stands-last, stands-below, stands-without, ahead-other}
 use Rattle.rota.proofs.Calls.{Does, nothing, enters, goes, ends, leaves, call-does}
-use Rattle.rota.proofs.Account.{unlike}
-use Rattle.rota.proofs.Tickets.{Lawful, Distinct, UpTo, Sound, sound-call}
+use Rattle.rota.proofs.Tickets.{Lawful, Sound, sound-call}
 use Rattle.rota.proofs.Gone.{Gone}
-
--- The job stands in the list, with p jobs ahead of it.
-pub data Stands {J : Type 0} (j : J) : ℕ → List J → Type 0 where
-  front : {js : List J} → Stands j zero (j ∷ js)
-  behind : {x : J} {js : List J} {p : ℕ} → Stands j p js → Stands j (suc p) (x ∷ js)
-
-module _ {J : Type 0} (j : J) where
-  stands-append : {p : ℕ} {js : List J} (l : List J) → Stands j p js → Stands j p (js ++ l)
-  stands-append l front = front
-  stands-append l (behind s) = behind (stands-append l s)
-
-  pub stands-last : (js : List J) → Stands j (length js) (js ++ j ∷ [])
-  stands-last [] = front
-  stands-last (x ∷ js) = behind (stands-last js)
-
-  stands-below : {p : ℕ} {js : List J} → Stands j p js → p < length js
-  stands-below front = omega arith
-  stands-below (behind s) = let h = stands-below s in omega arith
-
-  module _ (ticket : J → ℕ) where
-    stands-waits : {p : ℕ} {js : List J} → Stands j p js → waits ticket (ticket j) js ≡ true
-    stands-waits front = rw (eq-eqb (ticket j) (ticket j) refl)
-    stands-waits (behind {x = x} s) = tested (eqb (ticket j) (ticket x)) (λ e. rw e) (λ e. rw e (stands-waits s))
-
-    stands-upto : {n p : ℕ} {js : List J} → UpTo ticket n js → Stands j p js → ticket j ≤ n
-    stands-upto u front = u .0
-    stands-upto u (behind s) = stands-upto (u .1) s
-
-    stands-without : (k : ℕ) → (k ≡ ticket j → ⊥) → {p : ℕ} {js : List J} → Stands j p js → (q : ℕ) × (q ≤ p) × Stands j q (without ticket k js)
-    stands-without k h front = rw (ne-eqb k (ticket j) h) (0, omega arith, front)
-    stands-without k h (behind {x = x} {p = p} s) =
-        tested (eqb k (ticket x))
-        (λ e. rw e (p, omega arith, s))
-        (λ e. rw e (let r = stands-without k h s in (suc (r .0), omega (arith, r .1), behind (r .2))))
-
-    -- Whoever stands ahead has another ticket.
-    ahead-other : {p : ℕ} (x : J) (js : List J) → Distinct ticket (x ∷ js) → Stands j p js → eqb (ticket j) (ticket x) ≡ false
-    ahead-other x js d s = ne-eqb (ticket j) (ticket x) (λ e. unlike (stands-waits s) (rw e (d .0)))
 
 module _ {J P E A : Type 0} (D : Desk J P E A) (j : J) (p : ℕ) (c : Call P E) (d : Done (Round J) A) where
   -- What becomes of a job with p ahead of it: it waits on, nearer by each turn; it is served and goes on; it is served for the last time.

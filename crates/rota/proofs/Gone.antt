@@ -9,9 +9,9 @@ use borrow.Author.Tests.{ne-eqb, eqb-true}
 use lib.Dec.{eqb}
 use Rattle.dimacs.proofs.Tests.{tested}
 use Rattle.rota.specs.Rota.{Call, Answer, Done, answers, finally, heard, concluded, Round, fresh, Desk, waits, call}
+use Rattle.rota.proofs.Waiting.{unlike, not-head, not-tail, waits-snoc, waits-without}
 use Rattle.rota.proofs.Calls.{Does, nothing, enters, goes, ends, leaves, call-does}
-use Rattle.rota.proofs.Account.{unlike}
-use Rattle.rota.proofs.Tickets.{Lawful, Sound, not-head, not-tail, waits-snoc, waits-without, sound-call, sound}
+use Rattle.rota.proofs.Tickets.{Lawful, Sound, sound-call, sound}
 
 module _ {J P E A : Type 0} (D : Desk J P E A) (k : ℕ) where
   pub record Gone (t : Round J) : Type 0 where

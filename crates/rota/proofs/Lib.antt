@@ -1,4 +1,5 @@
 -- Laws about the round, whatever the jobs are and however they are served.
+pub mod Waiting
 pub mod Calls
 pub mod Account
 pub mod Tickets
