@@ -20,6 +20,7 @@ pub record Lent : Type 0 where
   pub area : List ℕ
   pub buffer : List ℤ
 
+-- Any calls, in order.
 abbrev pub Calls : Type 0
 Calls = List (Call Put Lent)
 
@@ -60,7 +61,8 @@ module _ (before : Calls) (p : Put) where
   abbrev pub since : Calls → List (Answer Reply)
   since after = answers did (thenPut .after) after
 
--- A job of n bytes that is not withdrawn gets its verdict within 32 x (2 + (n + 1) / 2) accepted turns after its put, whatever those turns are lent.
+-- A job of n bytes that is not withdrawn gets its verdict within (2 + (n + 1) / 2) accepted turns for each place, counted after its put, whatever
+-- those turns are lent.
 abbrev pub Bound : Type 0
 Bound =
     (before : Calls) (p : Put) (after : Calls) (k : ℕ) → thenPut before p .answer ≡ ticketed k → isWithdrawn k (since before p after) ≡ false

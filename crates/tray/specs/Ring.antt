@@ -58,7 +58,7 @@ ring js h zero = []
 ring js h (suc n) = getD js (h % places) noJob ∷ ring js (h + 1) n
 
 module _ (t : Tray) where
-  -- How many jobs wait. A record that counts more than its places holds has all of them taken.
+  -- How many jobs wait. In a record that counts more than there are places, all places are taken.
   abbrev pub few : ℕ
   few = min (t .count) places
 
