@@ -30,13 +30,11 @@ ownRoom = 1024
 abbrev pub logFormat : ℕ
 logFormat = 3
 
--- The format of clauses that a number names.
-
 -- The places of a tray.
 abbrev pub places : ℕ
 places = 32
 
--- The format of clauses that a number names. (3 names a log.)
+-- The format of clauses that a number names.
 abbrev pub formatOf : ℕ → Option Format
 formatOf n = cond (eqb n 0) (some Plain) (cond (eqb n 1) (some Weighted) (cond (eqb n 2) (some Grouped) none))
 
