@@ -2,3 +2,4 @@
 pub mod Ring
 pub mod Jobs
 pub mod Finds
+pub mod Fits

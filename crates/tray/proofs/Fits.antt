@@ -1,0 +1,71 @@
+-- A turn tells of no more literals than the buffer lent to it holds. Assumes nothing.
+use Prim.Native.Nat.{ℕ, _≤_}
+use mathlib.Core.Bool.{Bool}
+use mathlib.Core.List.{List}
+use mathlib.Core.Path.{_≡_, ap, sym, _∙_, subst}
+use native.Mathlib.Omega.{arith}
+use borrow.Author.Tests.{ltb-false}
+use lib.Dec.{eqb, ltb}
+use lib.ListN.{length}
+use lib.IntN.{ℤ}
+use Rattle.dimacs.specs.Names.{ownRoom}
+use Rattle.dimacs.specs.Clauses as def
+use Rattle.dimacs.proofs.Tests.{chosen}
+use Rattle.clause.specs.declared.Next.{Next}
+use Rattle.formula.proofs.Runs.{CountFits}
+use Rattle.tray.specs.declared.Said.{Said}
+use Rattle.tray.specs.declared.Said.the-variants as said
+use Rattle.tray.specs.declared.Goes.{Goes}
+use Rattle.tray.specs.declared.Goes.the-variants.{On, Over}
+use Rattle.tray.specs.declared.Tray.{Tray}
+use Rattle.tray.specs.declared.Job.{Job}
+use Rattle.tray.specs.declared.TurnAnswer.{TurnAnswer}
+use Rattle.tray.specs.declared.TurnAnswer.the-variants as turning
+use Rattle.tray.specs.declared.TurnDone.{TurnDone}
+use Rattle.tray.specs.Ring.{Reply, opening, answering, saidOf, literalsIn, Serving, within, part, serving, serve, servedOf, front, wentBy, turnOf, Turns}
+use Rattle.tray.proofs.Ring.{serving-fits}
+
+-- The literals that are said to be read are at most so many.
+abbrev SaidFits : ℕ → Said → Type 0
+SaidFits room (said.Opening o) = Unit {0}
+SaidFits room (said.Next a) = CountFits room a
+
+-- The same of a turn's answer.
+abbrev ToldFits : ℕ → TurnAnswer → Type 0
+ToldFits room (turning.Refused n) = Unit {0}
+ToldFits room (turning.Told k a last) = SaidFits room a
+
+reply-fits : (room : ℕ) (a : Reply) → length (literalsIn a) ≤ room → SaidFits room (saidOf a)
+reply-fits room (opening o) h = tt
+reply-fits room (answering (def.clause extra so)) h = h
+reply-fits room (answering def.ended) h = tt
+reply-fits room (answering (def.refused r so)) h = h
+
+served-fits : (area : List ℕ) (j : Job) → length (literalsIn (serve area j .said)) ≤ ownRoom
+unfolding serve
+served-fits area j =
+    chosen (λ (v : Serving). length (literalsIn (v .said)) ≤ ownRoom) (within (j .start) (j .length) (length area))
+    (λ e. serving-fits (part j area) ownRoom (j .stage))
+    (λ e. omega arith)
+
+went-fits : (t : Tray) (room : ℕ) (a : Said) (g : Goes) → SaidFits room a → ToldFits room (wentBy t a g .answer)
+went-fits t room a (On c) h = h
+went-fits t room a Over h = h
+
+turn-fits : (t : Tray) (area : List ℕ) (room : ℕ) → ToldFits room (turnOf t area room .answer)
+unfolding turnOf
+turn-fits t area room =
+    chosen Fits (eqb (t .count) 0) (λ e. tt)
+    (λ e. chosen Fits (ltb room ownRoom) (λ f. tt)
+    (λ f. let v = serve area (front t) in went-fits t room (saidOf (v .said)) (v .goes) (reply-fits room (v .said) (omega (arith, served-fits area (front t), ltb-false room ownRoom f)))))
+  where
+    Fits : TurnDone → Type 0
+    Fits d = ToldFits room (d .answer)
+
+turns-fit : {t : Tray} {area : List ℕ} {old new : List ℤ} {r : TurnDone} → Turns t area old new r → {a : TurnAnswer} → r .answer ≡ a → ToldFits (length old) a
+turns-fit {t} {area} {old} p g = subst (ToldFits (length old)) (sym (ap (λ x. x .answer) (p .done)) ∙ g) (turn-fits t area (length old))
+
+-- The same as a caller takes the answer apart.
+pub told-fits : {t : Tray} {area : List ℕ} {old new : List ℤ} {r : TurnDone} → Turns t area old new r
+    → {k : ℕ} {a : Said} {last : Bool} {x y : Next} → r .answer ≡ turning.Told k a last → a ≡ said.Next x → x ≡ y → CountFits (length old) y
+told-fits {t} {area} {old} p g h e = subst (CountFits (length old)) e (subst (SaidFits (length old)) h (turns-fit p g))
