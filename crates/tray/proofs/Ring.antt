@@ -55,7 +55,7 @@ unfolding serving
 reading-served s old new e p q = rw e (record { answer = q ∙ ap stepServed (p .answer); buffer = p .buffer })
 
 -- No more literals are read than there is room for.
-serving-fits : (s : List ℕ) (room : ℕ) (x : Stage) → length (literalsIn (serving s room x .said)) ≤ room
+pub serving-fits : (s : List ℕ) (room : ℕ) (x : Stage) → length (literalsIn (serving s room x .said)) ≤ room
 unfolding serving
 serving-fits s room (stage.Fresh f m) = omega arith
 serving-fits s room (stage.Reading c) = go (answerFrom s room c .answer) (answer-fits s (c .format) (c .limits) room (stateOf c))
