@@ -1,0 +1,2 @@
+-- What a reader that holds its text answers.
+pub mod Readers

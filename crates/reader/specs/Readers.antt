@@ -1,0 +1,18 @@
+-- A reader is a text with a cursor: its answers are the cursor's.
+use Prim.Native.Nat.{ℕ}
+use mathlib.Core.List.{List}
+use mathlib.Core.Path.{_≡_}
+use lib.IntN.{ℤ}
+use denote.Ref.{RefT, now}
+use Rattle.clause.specs.declared.Next.{Next}
+use Rattle.formula.specs.Cursors.{opened, Steps}
+use Rattle.reader.specs.declared.Reader.{Reader}
+
+-- The reader of a text that is opened by the numbers of a format and a mode.
+abbrev pub readerOf : ℕ → ℕ → RefT (List ℕ) → Reader
+readerOf f m t = record { text = t; cursor = opened f m (now t) .cursor }
+
+-- A call's whole promise: the cursor's own, on the text that the reader goes on to hold.
+pub record Reads (r : Reader) (old new : List ℤ) (after : Reader) (a : Next) : Type 0 where
+  pub step : Steps (now (r .text)) (r .cursor) old new (record { answer = a; cursor = after .cursor })
+  pub text : after .text ≡ r .text

@@ -1,0 +1,48 @@
+// A reader that holds the text and the place in it together.
+ghost use mathlib.Core.Path.{_≡_};
+ghost use Rattle.dimacs.specs.Tokens.{stoppedAt};
+ghost use Rattle.reader.specs.Readers.{readerOf, Reads};
+use clause::Next;
+use formula::Cursor;
+
+// A text and the cursor with which it is read.
+pub struct Reader<'a> {
+    pub text: &'a [u8],
+    pub cursor: Cursor,
+}
+
+impl<'a> Reader<'a> {
+    // The text opened by the numbers of a format of clauses and a mode.
+    pub fn new(text: &'a [u8], format: u8, mode: u8) -> Reader<'a>
+        ensures { λ r. ⌜ r ≡ readerOf format mode (text .entry) ⌝ }
+    {
+        let opened = formula::open(text, format, mode);
+        Reader {
+            text,
+            cursor: opened.cursor,
+        }
+    }
+
+    // The next clause, the end or a refusal, and the reader goes on.
+    pub fn next_clause(&mut self, lits: &mut [i32]) -> Next
+        ensures { λ r. ⌜ Reads (now (self .entry)) (now (lits .entry)) (now (lits .exit)) (now (self .exit)) r ⌝ }
+    {
+        let step = self.cursor.next_clause(self.text, lits);
+        self.cursor = step.cursor;
+        step.answer
+    }
+
+    // The next place.
+    pub fn place(self) -> usize
+        ensures { λ r. ⌜ r ≡ self .entry .cursor .place ⌝ }
+    {
+        self.cursor.place
+    }
+
+    // The word the reader stopped at, as a part of its text.
+    pub fn stopped_at(self) -> &'a [u8]
+        ensures { λ r. ⌜ now r ≡ stoppedAt (now (self .entry .text)) (self .entry .cursor .place) ⌝ }
+    {
+        formula::stopped_at(self.text, self.cursor.place)
+    }
+}

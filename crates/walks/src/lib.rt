@@ -1,0 +1,1 @@
+// Laws only: what the proofs by hand of functions over references share.
