@@ -2,3 +2,4 @@
 pub mod Params
 pub mod Locals
 pub mod Ends
+pub mod Calls

@@ -1,0 +1,2 @@
+-- The laws of a struct that holds a text and a cursor.
+pub mod Held
