@@ -3,3 +3,4 @@ pub mod Params
 pub mod Locals
 pub mod Ends
 pub mod Calls
+pub mod Lent
