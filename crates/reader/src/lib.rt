@@ -46,3 +46,19 @@ impl<'a> Reader<'a> {
         formula::stopped_at(self.text, self.cursor.place)
     }
 }
+
+// The first answer of a text's clauses, and the place after it.
+pub struct First {
+    pub answer: Next,
+    pub place: usize,
+}
+
+// The first clause of a text that is opened by the numbers of a format of clauses and a mode.
+pub fn first_clause(text: &[u8], format: u8, mode: u8, lits: &mut [i32]) -> First {
+    let mut reader = Reader::new(text, format, mode);
+    let answer = reader.next_clause(lits);
+    First {
+        answer,
+        place: reader.place(),
+    }
+}

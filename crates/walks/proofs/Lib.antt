@@ -4,3 +4,4 @@ pub mod Locals
 pub mod Ends
 pub mod Calls
 pub mod Lent
+pub mod Loans

@@ -63,8 +63,20 @@ module _ {M : Type 1} (𝓤 : URA M) (H : Heap 𝓤) (A : Atoms 𝓤) where
   front (suc n) [] = []
   front (suc n) (i ∷ Γ) = i ∷ front n Γ
 
+  -- An entry set before the n-th.
+  abbrev pub seated : ℕ → Item 𝓤 → List (Item 𝓤) → List (Item 𝓤)
+  seated zero i Γ = i ∷ Γ
+  seated (suc n) i [] = i ∷ []
+  seated (suc n) i (j ∷ Γ) = j ∷ seated n i Γ
+
   swapped : (P Q R : SProp 𝓤) → ent 𝓤 (sep 𝓤 P (sep 𝓤 Q R)) (sep 𝓤 Q (sep 𝓤 P R))
   swapped P Q R = via 𝓤 _ (assoc′ 𝓤 P Q R) (via 𝓤 _ (monoL 𝓤 R (comm∗ 𝓤 P Q)) (assoc∗ 𝓤 Q P R))
+
+  seat : (n : ℕ) (i : Item 𝓤) (Γ : List (Item 𝓤)) → ent 𝓤 (sep 𝓤 (mean 𝓤 H A i) (⋆ 𝓤 H A Γ)) (⋆ 𝓤 H A (seated n i Γ))
+  seat zero i Γ = push 𝓤 H A i Γ
+  seat (suc n) i [] = push 𝓤 H A i []
+  seat (suc n) i (j ∷ Γ) =
+      via 𝓤 _ (monoR 𝓤 (mean 𝓤 H A i) (pop 𝓤 H A j Γ)) (via 𝓤 _ (swapped (mean 𝓤 H A i) (mean 𝓤 H A j) (⋆ 𝓤 H A Γ)) (via 𝓤 _ (monoR 𝓤 (mean 𝓤 H A j) (seat n i Γ)) (push 𝓤 H A j (seated n i Γ))))
 
   -- The cells of the locals, and the rest.
   record Apart (E : Env 𝓤 H) (vs : List (Option Val)) (Γ : List (Item 𝓤)) : Type 1 where
@@ -155,3 +167,7 @@ module _ {M : Type 1} {𝓤 : URA M} {H : Heap 𝓤} {A : Atoms 𝓤} {K : Type 
   -- A function returns: the locals, whose cells stand after the first n entries and hold these values, are freed.
   pub leaves : K → (n : ℕ) {E : Env 𝓤 H} {g : Goal 𝓤 H} {Γ : List (Item 𝓤)} (vs : List Val) (Δ : List (Item 𝓤)) → front 𝓤 H A n Γ ++ cells 𝓤 H A E (all vs) Δ ≡ Γ → Step K W (front 𝓤 H A n Γ ++ Δ) g Γ (frees E g)
   leaves t n {E} {g} {Γ} vs Δ e = step (λ s. subst (λ (Γ′ : List (Item 𝓤)). Seq K W Γ′ (frees E g)) e (record { prf = released 𝓤 H A W E (all vs) (front 𝓤 H A n Γ) Δ (aim 𝓤 H g) (s .prf) }))
+
+  -- The head is set in its place among the rest, as a cell that was lent is once it is back.
+  pub seats : K → (n : ℕ) {i : Item 𝓤} {Γ : List (Item 𝓤)} {g : Goal 𝓤 H} → Step K W (seated 𝓤 H A n i Γ) g (i ∷ Γ) g
+  seats t n {i} {Γ} {g} = step (λ s. record { prf = via 𝓤 (sep 𝓤 (mean 𝓤 H A i) (⋆ 𝓤 H A Γ)) (pop 𝓤 H A i Γ) (via 𝓤 (⋆ 𝓤 H A (seated 𝓤 H A n i Γ)) (seat 𝓤 H A n i Γ) (s .prf)) })
