@@ -1,2 +1,3 @@
 -- The laws of a struct that holds a text and a cursor.
 pub mod Held
+pub mod Firsts

@@ -2,17 +2,40 @@
 use Prim.Native.Nat.{ℕ}
 use mathlib.Core.List.{List}
 use mathlib.Core.Path.{_≡_}
+use lib.ListN.{length}
 use lib.IntN.{ℤ}
 use denote.Ref.{RefT, now}
+use Rattle.dimacs.specs.Clauses.{laid}
+use Rattle.clause.specs.Answers.{leftBy}
 use Rattle.clause.specs.declared.Next.{Next}
-use Rattle.formula.specs.Cursors.{opened, Steps}
+use Rattle.formula.specs.declared.Cursor.{Cursor}
+use Rattle.formula.specs.Cursors.{opened, answerFrom, stepOf}
 use Rattle.reader.specs.declared.Reader.{Reader}
+use Rattle.reader.specs.declared.First.{First}
 
 -- The reader of a text that is opened by the numbers of a format and a mode.
 abbrev pub readerOf : ℕ → ℕ → RefT (List ℕ) → Reader
 readerOf f m t = record { text = t; cursor = opened f m (now t) .cursor }
 
--- A call's whole promise: the cursor's own, on the text that the reader goes on to hold.
+-- The reader after one call: the same text, and the cursor after the call.
+abbrev pub readOn : ℕ → Reader → Reader
+readOn room r = record { text = r .text; cursor = stepOf (now (r .text)) room (r .cursor) .cursor }
+
+-- What a call leaves in the buffer.
+abbrev pub leftIn : List ℕ → Cursor → List ℤ → List ℤ
+leftIn s c old = laid (leftBy (answerFrom s (length old) c .answer)) old
+
+-- A call's whole promise. The room is the buffer's length.
 pub record Reads (r : Reader) (old new : List ℤ) (after : Reader) (a : Next) : Type 0 where
-  pub step : Steps (now (r .text)) (r .cursor) old new (record { answer = a; cursor = after .cursor })
-  pub text : after .text ≡ r .text
+  pub answer : a ≡ stepOf (now (r .text)) (length old) (r .cursor) .answer
+  pub reader : after ≡ readOn (length old) r
+  pub buffer : new ≡ leftIn (now (r .text)) (r .cursor) old
+
+-- The first call from a cursor: its answer, and the place after it.
+abbrev pub firstFrom : List ℕ → ℕ → Cursor → First
+firstFrom s room c = record { answer = stepOf s room c .answer; place = stepOf s room c .cursor .place }
+
+-- The whole promise of the first call on a text.
+pub record ReadsFirst (f m : ℕ) (s : List ℕ) (old new : List ℤ) (r : First) : Type 0 where
+  pub answer : r ≡ firstFrom s (length old) (opened f m s .cursor)
+  pub buffer : new ≡ leftIn s (opened f m s .cursor) old

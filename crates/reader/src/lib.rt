@@ -1,7 +1,7 @@
 // A reader that holds the text and the place in it together.
 ghost use mathlib.Core.Path.{_≡_};
 ghost use Rattle.dimacs.specs.Tokens.{stoppedAt};
-ghost use Rattle.reader.specs.Readers.{readerOf, Reads};
+ghost use Rattle.reader.specs.Readers.{readerOf, Reads, ReadsFirst};
 use clause::Next;
 use formula::Cursor;
 
@@ -54,7 +54,9 @@ pub struct First {
 }
 
 // The first clause of a text that is opened by the numbers of a format of clauses and a mode.
-pub fn first_clause(text: &[u8], format: u8, mode: u8, lits: &mut [i32]) -> First {
+pub fn first_clause(text: &[u8], format: u8, mode: u8, lits: &mut [i32]) -> First
+    ensures { λ r. ⌜ ReadsFirst format mode (now (text .entry)) (now (lits .entry)) (now (lits .exit)) r ⌝ }
+{
     let mut reader = Reader::new(text, format, mode);
     let answer = reader.next_clause(lits);
     First {

@@ -17,7 +17,7 @@ use sound.WpLaws.{FmC}
 use contract.Lifetimes.{Lfts}
 use contract.Monad.{Fun}
 use contract.Running.{givenOf}
-use types.Kit.{Given, ‵, _⊛_, _$_, _∵_, !, qed, by, move, keep, drop, use1, split, rewrite, fsplit, fjoin, frame, done}
+use types.Kit.{Given, ‵, _⊛_, _$_, _∵_, !, qed, by, move, keep, drop, use1, split, fsplit, fjoin, frame, done}
 use types.Part.{agg, whole, sub, look-in}
 use types.Run.{look, init, stop, fld, from, load, and-then, no-more, of-opd, assigns, land, returns}
 use denote.RattleType.{owns}
@@ -27,7 +27,7 @@ use denote.Builtin.{u8}
 use denote.Ref.{RefT, NamedLft, now}
 use denote.Signature.{namedLft}
 use denote.Slice.{sliceVal, ShrSlice, shr-slice-lawful, shr-slice-copy}
-use denote.Steps.{only, owned, nothing}
+use denote.Steps.{owned, nothing}
 use denote.Struct.Laws as LL
 use denote.Struct.Rest.{own-shut}
 use denote.Triple.Statement.{Triple}
@@ -74,15 +74,14 @@ walk 𝓤 H A W mem run C Λ fm known κs qs bounds a g are =
     -- [_4; …; _3; …; _2; …; _1; …; _0; …; the token; what the arguments own]: what text owns is had three times
     move ! (11 ∷ []) $ fsplit ! $ use1 W (‵ Text ⊛ ‵ Text) (shr-slice-copy 𝓤 H A W (named 0) (κs .0) u8 .twice s (v ∷ [])) $ split ! $
     use1 W (‵ Text ⊛ ‵ Text) (shr-slice-copy 𝓤 H A W (named 0) (κs .0) u8 .twice s (v ∷ [])) $ split ! $ move ! (0 ∷ 3 ∷ []) $ fjoin ! $ move ! (13 ∷ 0 ∷ []) $
-    calls-by ! fm opens.ended (opens.clauses 𝓤 H A mem run) known ((κs, qs, bounds, a, at), tt) refl (id⊢ 𝓤 _) (λ r ws. r ≡ opened m n (now s)) (λ r ws. id⊢ 𝓤 _)
-    (and-then ! (load ! (from ! (stop !)) (look ! 9 refl)) (and-then ! (load ! (from ! (stop !)) (look ! 7 refl)) (and-then ! (load ! (from ! (stop !)) (look ! 5 refl)) (no-more !)))) (λ u r ws e is.
+    calls-by ! fm opens.ended (opens.clauses 𝓤 H A mem run) known ((κs, qs, bounds, a, at), tt) (LL.val O.the-type O′.the-laws) (LL.tells O.the-type O′.the-laws) refl (id⊢ 𝓤 _) (λ r ws. r ≡ opened m n (now s)) (λ r ws. id⊢ 𝓤 _)
+    (and-then ! (load ! (from ! (stop !)) (look ! 9 refl)) (and-then ! (load ! (from ! (stop !)) (look ! 7 refl)) (and-then ! (load ! (from ! (stop !)) (look ! 5 refl)) (no-more !)))) (λ r ws e is.
     -- [what the result owns; the token; …; text's; text's; _4; …; _3; …; _2; …; _1; …; _0; …]
     let made : Reader = record { text = s; cursor = r .cursor } in
-    let cursor-is : Is B.the-row (r .cursor) (LL.val B.the-type B′.the-laws (r .cursor) ∷ []) = LL.owed O.the-type O′.the-laws r (u ∷ []) is .1 .0 in
+    let cursor-is : Is B.the-row (r .cursor) (LL.val B.the-type B′.the-laws (r .cursor) ∷ []) = LL.owed O.the-type O′.the-laws r _ is .1 .0 in
     let mach : Val = LL.val (T.the-type α) (T′.the-laws α) made in
     let made-is : Is (T.the-row α) made (mach ∷ []) = LL.owes (T.the-type α) (T′.the-laws α) made (are .0, (cursor-is, tt)) in
     land ! (from ! (stop !)) (init ! 5 refl (LL.lawful O.the-type O′.the-laws 𝓤 H A W .typed r _ is .0)) $
-    rewrite ! 5 (λ (w : Val). ‵ (fat fullShare O′.mir (bs .1 .1 .1 .1 .0) 0 w)) (ap only (LL.tells O.the-type O′.the-laws r (u ∷ []) is)) refl $
     assigns ! (agg ! (and-then ! (load ! (from ! (stop !)) (look ! 11 refl)) (and-then ! (load ! (from ! (fld ! refl (stop !))) (look-in ! 5 (sub ! 1 refl (whole !)))) (no-more !)))) (from ! (stop !)) (init ! 13 refl (LL.lawful (T.the-type α) (T′.the-laws α) 𝓤 H A W .typed made (mach ∷ []) made-is .0)) $
     returns ! (look ! 13 refl) $ leaves ! 5 (_ ∷ _ ∷ _ ∷ _ ∷ _ ∷ []) _ refl $
     ends ! f.ended (f.clauses 𝓤 H A mem run) params ((κs, qs, bounds, a, at), g) mach made (tt, (tt, (tt, tt))) (tt, (tt, (tt, tt))) $ says ! (ap (λ (o : Opened). record { text = s; cursor = o .cursor }) e) $

@@ -18,7 +18,7 @@ use sound.WpLaws.{FmC}
 use contract.Lifetimes.{Lfts}
 use contract.Monad.{Fun}
 use contract.Running.{givenOf}
-use types.Kit.{Given, ‵, _⊛_, _$_, _∵_, !, qed, move, drop, use1, split, join, rewrite, fsplit, fjoin, feqL, frame, done}
+use types.Kit.{Given, ‵, _⊛_, _$_, _∵_, !, qed, move, drop, use1, split, join, fsplit, fjoin, feqL, frame, done}
 use types.Part.{agg, whole, sub, look-in, store-in}
 use types.Run.{look, init, stop, hop, fld, from, load, addr, and-then, no-more, of-opd, assigns, land, returns}
 use denote.RattleType.{owns}
@@ -27,7 +27,7 @@ use denote.Builtin.{i32}
 use denote.Ref.{RefT, NamedLft, MutRef, now}
 use denote.Signature.{namedLft}
 use denote.Slice.{sliceVal, MutSlice}
-use denote.Steps.{only, owned}
+use denote.Steps.{owned}
 use denote.Struct.Laws as LL
 use denote.Enum.Laws as EL
 use denote.Triple.Statement.{Triple}
@@ -87,16 +87,15 @@ walk 𝓤 H A W mem run C Λ fm known κs qs bounds a g are =
     -- what the cursor, the text and lits own goes to the callee, with the tokens of the last two
     move ! (1 ∷ []) $ use1 W (‵ (Text α (d .text)) ⊛ ‵ (Own α d)) (text-out α 𝓤 H A W d) $ split ! $ move ! (0 ∷ 7 ∷ []) $ fjoin ! $
     owned ! B.the-row (Is B.the-row) (LL.makes B.the-type B′.the-plain 𝓤 H A) (d .cursor) (cursorVal (d .cursor) ∷ []) cursor-is $ fjoin ! $ move ! (6 ∷ 0 ∷ []) $
-    calls-by ! fm step.ended (step.clauses 𝓤 H A mem run) known (((κs .1 .0, (κs .1 .1 .0, tt)), (qs .1 .0, (qs .1 .1 .0, tt)), tt, (d .cursor, (d .text, (y, tt))), (cursorVal (d .cursor) ∷ [], (textVal (d .text) ∷ [], (v ∷ [], tt)))), tt) refl (id⊢ 𝓤 _)
+    calls-by ! fm step.ended (step.clauses 𝓤 H A mem run) known (((κs .1 .0, (κs .1 .1 .0, tt)), (qs .1 .0, (qs .1 .1 .0, tt)), tt, (d .cursor, (d .text, (y, tt))), (cursorVal (d .cursor) ∷ [], (textVal (d .text) ∷ [], (v ∷ [], tt)))), tt) (LL.val S.the-type S′.the-laws) (LL.tells S.the-type S′.the-laws) refl (id⊢ 𝓤 _)
     (λ r ws. Steps (now (d .text)) (d .cursor) (now y) (ws .1 .1 .0) r) (λ r ws. id⊢ 𝓤 _)
-    (and-then ! (load ! (from ! (stop !)) (look ! 12 refl)) (and-then ! (load ! (from ! (stop !)) (look ! 10 refl)) (and-then ! (load ! (from ! (stop !)) (look ! 6 refl)) (no-more !)))) (λ u r ws e stepped-is.
+    (and-then ! (load ! (from ! (stop !)) (look ! 12 refl)) (and-then ! (load ! (from ! (stop !)) (look ! 10 refl)) (and-then ! (load ! (from ! (stop !)) (look ! 6 refl)) (no-more !)))) (λ r ws e stepped-is.
     let answer-is : Is N.the-row (r .answer) (EL.val N.the-type N′.the-laws (r .answer) ∷ []) = LL.owed S.the-type S′.the-laws r _ stepped-is .0 in
     let next-is : Is B.the-row (r .cursor) (cursorVal (r .cursor) ∷ []) = LL.owed S.the-type S′.the-laws r _ stepped-is .1 .0 in
     let after : Reader = record { text = d .text; cursor = r .cursor } in
     move ! (2 ∷ []) $ fsplit ! $ drop ! $ fsplit ! $ drop ! $ fsplit ! $ fsplit ! $ move ! (1 ∷ []) $ feqL ! (λ len.
     -- [lits's last list; true; the Stepped's; the tokens; the reader's; the cell; the open borrow; obs; auth; _7; …; _6; …; _5; …; _4; …; _3; …; _2; …; _1; …; _0; …]
     land ! (from ! (stop !)) (init ! 17 refl (LL.lawful S.the-type S′.the-laws 𝓤 H A W .typed r _ stepped-is .0)) $
-    rewrite ! 17 (λ (w : Val). ‵ (fat fullShare S′.mir (bs .1 .1 .1 .0) 0 w)) (ap only (LL.tells S.the-type S′.the-laws r (u ∷ []) stepped-is)) refl $
     assigns ! (of-opd ! (load ! (from ! (fld ! refl (stop !))) (look-in ! 17 (sub ! 1 refl (whole !))))) (from ! (hop ! (look ! 21 refl) (fld ! refl (stop !)))) (store-in ! 5 (sub ! 1 refl (whole !)) (LL.lawful B.the-type B′.the-laws 𝓤 H A W .typed (r .cursor) _ next-is .0)) $
     assigns ! (of-opd ! (load ! (from ! (fld ! refl (stop !))) (look-in ! 17 (sub ! 0 refl (whole !))))) (from ! (stop !)) (init ! 23 refl (EL.lawful N.the-type N′.the-laws 𝓤 H A W tt .typed (r .answer) _ answer-is .0)) $
     -- the borrow is closed at the reader with the cursor that came back
@@ -104,7 +103,7 @@ walk 𝓤 H A W mem run C Λ fm known κs qs bounds a g are =
     given-back ! tt (T.the-type α) (T′.the-laws α) (T′.mir erased) (λ v b o. refl) (named 0) x after $
     returns ! (look ! 20 refl) $ leaves ! 6 (_ ∷ _ ∷ _ ∷ _ ∷ _ ∷ _ ∷ _ ∷ _ ∷ []) _ refl $
     -- [the reference; its token; lits's last list; true; the Stepped's; the tokens]
-    ends ! f.ended (f.clauses 𝓤 H A mem run) params ((κs, qs, bounds, a, at), g) (EL.val N.the-type N′.the-laws (r .answer)) (r .answer) (after, (ws .1 .1 .0, tt)) (tt, (len, tt)) $ says ! (record { step = e; text = refl }) $
+    ends ! f.ended (f.clauses 𝓤 H A mem run) params ((κs, qs, bounds, a, at), g) (EL.val N.the-type N′.the-laws (r .answer)) (r .answer) (after, (ws .1 .1 .0, tt)) (tt, (len, tt)) $ says ! (record { answer = ap (λ (z : Stepped). z .answer) (e .answer); reader = ap (λ (z : Stepped). record { text = d .text; cursor = z .cursor }) (e .answer); buffer = e .buffer }) $
     move ! (1 ∷ 5 ∷ []) $ join ! $ frame ! $ move ! (1 ∷ 2 ∷ []) $ fjoin ! $ move ! (1 ∷ 0 ∷ []) $ fjoin ! $ frame ! $
     drop ! $ owned ! N.the-row (Is N.the-row) (EL.makes N.the-type N′.the-plain 𝓤 H A) (r .answer) _ answer-is $ done !))))
 

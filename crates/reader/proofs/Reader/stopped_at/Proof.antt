@@ -23,7 +23,7 @@ use denote.Plain.{uint-makes}
 use denote.Builtin.{u8, usize}
 use denote.Ref.{NamedLft, now}
 use denote.Signature.{namedLft}
-use denote.Slice.{shr-slice-lawful}
+use denote.Slice.{shr-slice-tells, shr-slice-lawful}
 use denote.Steps.{owned, nothing}
 use denote.Struct.Declared.{Declared}
 use denote.Struct.Laws as LL
@@ -65,13 +65,13 @@ walk 𝓤 H A W mem run C Λ fm known κs qs bounds a g are =
     -- [_3; …; _2; …; _1; …; _0; …; the token; what the reader owns]
     move ! (9 ∷ []) $ fsplit ! $ use1 W (‵ (Text α (d .text)) ⊛ ‵ (Own α d)) (text-out α 𝓤 H A W d) $ split ! $
     nothing ! $ owned ! usize (Is usize) (uint-makes 𝓤 H A W w64) (d .cursor .place) (vint w64 (d .cursor .place) ∷ []) (refl, wt .1 .1 .0 .0 .fits) $ fjoin ! $ move ! (1 ∷ 0 ∷ []) $ fjoin ! $ move ! (11 ∷ 0 ∷ []) $
-    calls-by ! fm word.ended (word.clauses 𝓤 H A mem run) known ((κs, qs, tt, (d .text, (d .cursor .place, tt)), (textVal (d .text) ∷ [], (vint w64 (d .cursor .place) ∷ [], tt))), tt) refl (id⊢ 𝓤 _)
+    calls-by ! fm word.ended (word.clauses 𝓤 H A mem run) known ((κs, qs, tt, (d .text, (d .cursor .place, tt)), (textVal (d .text) ∷ [], (vint w64 (d .cursor .place) ∷ [], tt))), tt) textVal (shr-slice-tells (named 0) (κs .0) u8) refl (id⊢ 𝓤 _)
     (λ r ws. now r ≡ stoppedAt (now (d .text)) (d .cursor .place)) (λ r ws. id⊢ 𝓤 _)
-    (and-then ! (load ! (from ! (stop !)) (look ! 5 refl)) (and-then ! (load ! (from ! (stop !)) (look ! 3 refl)) (no-more !))) (λ u r ws e is.
+    (and-then ! (load ! (from ! (stop !)) (look ! 5 refl)) (and-then ! (load ! (from ! (stop !)) (look ! 3 refl)) (no-more !))) (λ r ws e is.
     -- [the word; the token; …; what the reader owns; …; _3; …; _2; …; _1; …; _0; …]
     land ! (from ! (stop !)) (init ! 11 refl (shr-slice-lawful 𝓤 H A W (named 0) (κs .0) u8 .typed r _ is .0)) $
     returns ! (look ! 11 refl) $ leaves ! 5 (_ ∷ _ ∷ _ ∷ _ ∷ []) _ refl $
-    ends ! f.ended (f.clauses 𝓤 H A mem run) params ((κs, qs, bounds, a, (mach ∷ [], tt)), g) u r (tt, tt) (tt, tt) $ says ! e $
+    ends ! f.ended (f.clauses 𝓤 H A mem run) params ((κs, qs, bounds, a, (mach ∷ [], tt)), g) (textVal r) r (tt, tt) (tt, tt) $ says ! e $
     move ! (1 ∷ []) $ frame ! $ keep ! (2 ∷ 3 ∷ 0 ∷ []) $ fjoin ! $ frame ! $ done !))
 
 pub stopped-at-spec : {M : Type 1} → stated.statement M
