@@ -6,8 +6,9 @@ use lib.IntN.{ℤ}
 use denote.Ref.{RefT, now}
 use Rattle.clause.specs.declared.Next.{Next}
 use Rattle.reader.specs.declared.Reader.{Reader}
+use Rattle.reader.specs.declared.Opened.{Opened}
 use Rattle.reader.specs.declared.First.{First}
-use Rattle.reader.specs.Readers.{readerOf, Reads, ReadsFirst}
+use Rattle.reader.specs.Readers.{openedOn, Reads, ReadsFirst}
 
 -- Two permitted answers of a call are equal, and so are the readers and the buffers after them.
 pub one-read : {r r₁ r₂ : Reader} {old n₁ n₂ : List ℤ} {a₁ a₂ : Next} → Reads r old n₁ r₁ a₁ → Reads r old n₂ r₂ a₂ → (a₁ ≡ a₂) × (r₁ ≡ r₂) × (n₁ ≡ n₂)
@@ -18,8 +19,8 @@ pub one-first : {f m : ℕ} {s : List ℕ} {old n₁ n₂ : List ℤ} {r₁ r₂
 one-first p q = (p .answer ∙ sym (q .answer), p .buffer ∙ sym (q .buffer))
 
 -- A call on the reader of a text, and its place then, are the first call on that text.
-pub first-read : (f m : ℕ) (t : RefT (List ℕ)) {r after : Reader} {old new : List ℤ} {a : Next} {at : ℕ} → r ≡ readerOf f m t → Reads r old new after a → at ≡ after .cursor .place
-    → ReadsFirst f m (now t) old new (record { answer = a; place = at })
+pub first-read : (f m : ℕ) (t : RefT (List ℕ)) {o : Opened} {after : Reader} {old new : List ℤ} {a : Next} {at : ℕ} → o ≡ openedOn f m t → Reads (o .reader) old new after a → at ≡ after .cursor .place
+    → ReadsFirst f m (now t) old new (record { opening = o .opening; answer = a; place = at })
 first-read f m t {after = after} {old = old} {new = new} {a = a} made p e =
-    let k : Reads (readerOf f m t) old new after a = subst (λ (r : Reader). Reads r old new after a) made p in
-    record { answer = λ i. record { answer = k .answer i; place = (e ∙ ap (λ (r : Reader). r .cursor .place) (k .reader)) i }; buffer = k .buffer }
+    let k : Reads (openedOn f m t .reader) old new after a = subst (λ (o : Opened). Reads (o .reader) old new after a) made p in
+    record { answer = λ i. record { opening = made i .opening; answer = k .answer i; place = (e ∙ ap (λ (r : Reader). r .cursor .place) (k .reader)) i }; buffer = k .buffer }

@@ -11,11 +11,12 @@ use Rattle.clause.specs.declared.Next.{Next}
 use Rattle.formula.specs.declared.Cursor.{Cursor}
 use Rattle.formula.specs.Cursors.{opened, answerFrom, stepOf}
 use Rattle.reader.specs.declared.Reader.{Reader}
+use Rattle.reader.specs.declared.Opened.{Opened}
 use Rattle.reader.specs.declared.First.{First}
 
--- The reader of a text that is opened by the numbers of a format and a mode.
-abbrev pub readerOf : ℕ → ℕ → RefT (List ℕ) → Reader
-readerOf f m t = record { text = t; cursor = opened f m (now t) .cursor }
+-- A text opened by the numbers of a format and a mode.
+abbrev pub openedOn : ℕ → ℕ → RefT (List ℕ) → Opened
+openedOn f m t = let o = opened f m (now t) in record { opening = o .opening; reader = record { text = t; cursor = o .cursor } }
 
 -- The reader after one call: the same text, and the cursor after the call.
 abbrev pub readOn : ℕ → Reader → Reader
@@ -31,11 +32,14 @@ pub record Reads (r : Reader) (old new : List ℤ) (after : Reader) (a : Next) :
   pub reader : after ≡ readOn (length old) r
   pub buffer : new ≡ leftIn (now (r .text)) (r .cursor) old
 
--- The first call from a cursor: its answer, and the place after it.
-abbrev pub firstFrom : List ℕ → ℕ → Cursor → First
-firstFrom s room c = record { answer = stepOf s room c .answer; place = stepOf s room c .cursor .place }
+-- How a text opens, the answer of the first call from its cursor, and the place after it.
+abbrev pub firstOf : ℕ → ℕ → List ℕ → ℕ → First
+firstOf f m s room =
+    let o = opened f m s in
+    let step = stepOf s room (o .cursor) in
+    record { opening = o .opening; answer = step .answer; place = step .cursor .place }
 
 -- The whole promise of the first call on a text.
 pub record ReadsFirst (f m : ℕ) (s : List ℕ) (old new : List ℤ) (r : First) : Type 0 where
-  pub answer : r ≡ firstFrom s (length old) (opened f m s .cursor)
+  pub answer : r ≡ firstOf f m s (length old)
   pub buffer : new ≡ leftIn s (opened f m s .cursor) old

@@ -1,29 +1,42 @@
-// A reader that holds the text and the place in it together.
+// Texts of clauses, read by a reader that holds its text: what `formula` does with a text beside a cursor, for callers who would rather carry one thing.
+//
+// `open` answers how the text opens, and a reader. Each `next_clause` answers a clause, the end or a refusal, and the reader goes on.
 ghost use mathlib.Core.Path.{_≡_};
 ghost use Rattle.dimacs.specs.Tokens.{stoppedAt};
-ghost use Rattle.reader.specs.Readers.{readerOf, Reads, ReadsFirst};
+ghost use Rattle.reader.specs.Readers.{openedOn, Reads, ReadsFirst};
 use clause::Next;
+use dimacs::Opening;
 use formula::Cursor;
 
-// A text and the cursor with which it is read.
+// A text, and the cursor with which it is read.
 pub struct Reader<'a> {
     pub text: &'a [u8],
     pub cursor: Cursor,
 }
 
-impl<'a> Reader<'a> {
-    // The text opened by the numbers of a format of clauses and a mode.
-    pub fn new(text: &'a [u8], format: u8, mode: u8) -> Reader<'a>
-        ensures { λ r. ⌜ r ≡ readerOf format mode (text .entry) ⌝ }
-    {
-        let opened = formula::open(text, format, mode);
-        Reader {
-            text,
-            cursor: opened.cursor,
-        }
-    }
+// How a text opens, and the reader of its clauses.
+pub struct Opened<'a> {
+    pub opening: Opening,
+    pub reader: Reader<'a>,
+}
 
-    // The next clause, the end or a refusal, and the reader goes on.
+// The text opened by the numbers of a format of clauses and a mode.
+pub fn open<'a>(text: &'a [u8], format: u8, mode: u8) -> Opened<'a>
+    ensures { λ r. ⌜ r ≡ openedOn format mode (text .entry) ⌝ }
+{
+    let opened = formula::open(text, format, mode);
+    let reader = Reader {
+        text,
+        cursor: opened.cursor,
+    };
+    Opened {
+        opening: opened.opening,
+        reader,
+    }
+}
+
+impl<'a> Reader<'a> {
+    // The next clause, the end or a refusal, and the reader goes on. The buffer then holds the literals read, and after them what it held.
     pub fn next_clause(&mut self, lits: &mut [i32]) -> Next
         ensures { λ r. ⌜ Reads (now (self .entry)) (now (lits .entry)) (now (lits .exit)) (now (self .exit)) r ⌝ }
     {
@@ -39,7 +52,7 @@ impl<'a> Reader<'a> {
         self.cursor.place
     }
 
-    // The word the reader stopped at, as a part of its text.
+    // The word the reader stopped at, as a part of its text: empty at a line end or the end of the text.
     pub fn stopped_at(self) -> &'a [u8]
         ensures { λ r. ⌜ now r ≡ stoppedAt (now (self .entry .text)) (self .entry .cursor .place) ⌝ }
     {
@@ -47,19 +60,22 @@ impl<'a> Reader<'a> {
     }
 }
 
-// The first answer of a text's clauses, and the place after it.
+// How a text opens, its first answer, and the place after it.
 pub struct First {
+    pub opening: Opening,
     pub answer: Next,
     pub place: usize,
 }
 
-// The first clause of a text that is opened by the numbers of a format of clauses and a mode.
+// The first clause of a text that is opened by the numbers of a format of clauses and a mode: what a caller has of a reader who holds none.
 pub fn first_clause(text: &[u8], format: u8, mode: u8, lits: &mut [i32]) -> First
     ensures { λ r. ⌜ ReadsFirst format mode (now (text .entry)) (now (lits .entry)) (now (lits .exit)) r ⌝ }
 {
-    let mut reader = Reader::new(text, format, mode);
+    let opened = open(text, format, mode);
+    let mut reader = opened.reader;
     let answer = reader.next_clause(lits);
     First {
+        opening: opened.opening,
         answer,
         place: reader.place(),
     }
