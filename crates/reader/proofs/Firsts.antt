@@ -5,6 +5,9 @@ use mathlib.Core.Path.{_≡_, ap, sym, _∙_, subst}
 use lib.IntN.{ℤ}
 use denote.Ref.{RefT, now}
 use Rattle.clause.specs.declared.Next.{Next}
+use Rattle.formula.specs.declared.Stepped.{Stepped}
+use Rattle.formula.specs.Cursors.{opened, Steps}
+use Rattle.formula.proofs.Runs.{one-step}
 use Rattle.reader.specs.declared.Reader.{Reader}
 use Rattle.reader.specs.declared.Opened.{Opened}
 use Rattle.reader.specs.declared.First.{First}
@@ -12,7 +15,9 @@ use Rattle.reader.specs.Readers.{openedOn, Reads, ReadsFirst}
 
 -- Two permitted answers of a call are equal, and so are the readers and the buffers after them.
 pub one-read : {r r₁ r₂ : Reader} {old n₁ n₂ : List ℤ} {a₁ a₂ : Next} → Reads r old n₁ r₁ a₁ → Reads r old n₂ r₂ a₂ → (a₁ ≡ a₂) × (r₁ ≡ r₂) × (n₁ ≡ n₂)
-one-read p q = (p .answer ∙ sym (q .answer), p .reader ∙ sym (q .reader), p .buffer ∙ sym (q .buffer))
+one-read p q =
+    let e = one-step (p .step) (q .step) in
+    (ap (λ (z : Stepped). z .answer) (e .0), (λ i. record { text = (p .text ∙ sym (q .text)) i; cursor = e .0 i .cursor }), e .1)
 
 -- Two permitted first answers are equal, and so are the buffers after them.
 pub one-first : {f m : ℕ} {s : List ℕ} {old n₁ n₂ : List ℤ} {r₁ r₂ : First} → ReadsFirst f m s old n₁ r₁ → ReadsFirst f m s old n₂ r₂ → (r₁ ≡ r₂) × (n₁ ≡ n₂)
@@ -22,5 +27,5 @@ one-first p q = (p .answer ∙ sym (q .answer), p .buffer ∙ sym (q .buffer))
 pub first-read : (f m : ℕ) (t : RefT (List ℕ)) {o : Opened} {after : Reader} {old new : List ℤ} {a : Next} {at : ℕ} → o ≡ openedOn f m t → Reads (o .reader) old new after a → at ≡ after .cursor .place
     → ReadsFirst f m (now t) old new (record { opening = o .opening; answer = a; place = at })
 first-read f m t {after = after} {old = old} {new = new} {a = a} made p e =
-    let k : Reads (openedOn f m t .reader) old new after a = subst (λ (o : Opened). Reads (o .reader) old new after a) made p in
-    record { answer = λ i. record { opening = made i .opening; answer = k .answer i; place = (e ∙ ap (λ (r : Reader). r .cursor .place) (k .reader)) i }; buffer = k .buffer }
+    let k : Steps (now t) (opened f m (now t) .cursor) old new (record { answer = a; cursor = after .cursor }) = subst (λ (o : Opened). Reads (o .reader) old new after a) made p .step in
+    record { answer = λ i. record { opening = made i .opening; answer = k .answer i .answer; place = (e ∙ ap (λ (z : Stepped). z .cursor .place) (k .answer)) i }; buffer = k .buffer }
