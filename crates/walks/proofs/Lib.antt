@@ -1,7 +1,8 @@
--- The laws that walks of a function's code share: its parameters, its locals, its calls, and its contract in the end.
+-- The laws that walks of a function's code share, in the order in which a walk meets them: the parameters, the locals, the statements, the calls, what is lent, and the contract in the end.
 pub mod Params
 pub mod Locals
-pub mod Ends
+pub mod Statements
 pub mod Calls
 pub mod Lent
 pub mod Loans
+pub mod Ends

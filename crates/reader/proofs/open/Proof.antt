@@ -14,9 +14,9 @@ use ghost.Atoms.{Atoms}
 use sound.WpLaws.{FmC}
 use contract.Monad.{Fun}
 use contract.Running.{givenOf}
-use types.Kit.{Given, ‵, _⊛_, _$_, _∵_, !, qed, by, move, keep, use1, split, fsplit, fjoin, frame, done}
-use types.Part.{agg, whole, sub, look-in}
-use types.Run.{look, init, stop, fld, from, load, and-then, no-more, of-opd, assigns, land, returns}
+use types.Kit.{Given, ‵, _⊛_, _$_, _∵_, !, qed, by, move, keep, use1, split, fsplit, fjoin, frame}
+use types.Part.{agg, whole, sub}
+use types.Run.{look, and-then, no-more, of-opd, returns}
 use denote.RattleType.{owns}
 use denote.Laws.{Is}
 use denote.Plain.{uint-makes}
@@ -30,6 +30,7 @@ use denote.Triple.Statement.{Triple}
 use denote.Triple.Table.{cited}
 use denote.Triple.Walked.{says}
 use Rattle.walks.proofs.Params.{Params, number, shared}
+use Rattle.walks.proofs.Statements.{whole-of, field-of, puts, lands-in}
 use Rattle.walks.proofs.Locals.{enters, leaves}
 use Rattle.walks.proofs.Calls.{Callee, calls-by}
 use Rattle.walks.proofs.Ends.{Walk, ends, proved}
@@ -74,7 +75,7 @@ walk 𝓤 H A W mem run C Λ fm known κs qs bounds a g are =
     move ! (15 ∷ []) $ fsplit ! $ use1 W (‵ (Text α s) ⊛ ‵ (Text α s)) (text-twice α 𝓤 H A W s) $ split ! $ use1 W (‵ (Text α s) ⊛ ‵ (Text α s)) (text-twice α 𝓤 H A W s) $ split ! $
     move ! (0 ∷ 3 ∷ []) $ fjoin ! $ move ! (17 ∷ 0 ∷ []) $
     calls-by ! fm opens.ended (opens.clauses 𝓤 H A mem run) known ((κs, qs, bounds, a, at), tt) (LL.val O.the-type O′.the-laws) (LL.tells O.the-type O′.the-laws) refl (id⊢ 𝓤 _) (λ r ws. r ≡ opened m n (now s)) (λ r ws. id⊢ 𝓤 _)
-    (and-then ! (load ! (from ! (stop !)) (look ! 13 refl)) (and-then ! (load ! (from ! (stop !)) (look ! 11 refl)) (and-then ! (load ! (from ! (stop !)) (look ! 9 refl)) (no-more !)))) (λ r ws e is.
+    (and-then ! (whole-of ! 13 refl) (and-then ! (whole-of ! 11 refl) (and-then ! (whole-of ! 9 refl) (no-more !)))) (λ r ws e is.
     -- [what the result owns; the token; …; text's; text's; _6; …; _5; …; _4; …; _3; …; _2; …; _1; …; _0; …]
     let read : Reader = record { text = s; cursor = r .cursor } in
     let made : Opened = record { opening = r .opening; reader = read } in
@@ -83,10 +84,10 @@ walk 𝓤 H A W mem run C Λ fm known κs qs bounds a g are =
     let read-is : Is (T.the-row α) read (readerVal α read ∷ []) = reader-is α read (are .0) cursor-is in
     let made-is : Is (P.the-row α) made (openedVal α made ∷ []) = LL.owes (P.the-type α) (P′.the-laws α) made (opening-is, (read-is, tt)) in
     let reader-typed = LL.lawful (T.the-type ε) (T′.the-laws ε) 𝓤 H A W .typed read _ read-is .0 in
-    land ! (from ! (stop !)) (init ! 9 refl (LL.lawful O.the-type O′.the-laws 𝓤 H A W .typed r _ is .0)) $
-    assigns ! (agg ! (and-then ! (load ! (from ! (stop !)) (look ! 15 refl)) (and-then ! (load ! (from ! (fld ! refl (stop !))) (look-in ! 9 (sub ! 1 refl (whole !)))) (no-more !)))) (from ! (stop !)) (init ! 7 refl reader-typed) $
-    assigns ! (of-opd ! (load ! (from ! (stop !)) (look ! 7 refl))) (from ! (stop !)) (init ! 5 refl reader-typed) $
-    assigns ! (agg ! (and-then ! (load ! (from ! (fld ! refl (stop !))) (look-in ! 9 (sub ! 0 refl (whole !)))) (and-then ! (load ! (from ! (stop !)) (look ! 5 refl)) (no-more !)))) (from ! (stop !)) (init ! 17 refl (LL.lawful (P.the-type α) (P′.the-laws α) 𝓤 H A W .typed made _ made-is .0)) $
+    lands-in ! 9 refl (LL.lawful O.the-type O′.the-laws 𝓤 H A W .typed r _ is .0) $
+    puts ! (agg ! (and-then ! (whole-of ! 15 refl) (and-then ! (field-of ! 9 refl (sub ! 1 refl (whole !))) (no-more !)))) 7 refl reader-typed $
+    puts ! (of-opd ! (whole-of ! 7 refl)) 5 refl reader-typed $
+    puts ! (agg ! (and-then ! (field-of ! 9 refl (sub ! 0 refl (whole !))) (and-then ! (whole-of ! 5 refl) (no-more !)))) 17 refl (LL.lawful (P.the-type α) (P′.the-laws α) 𝓤 H A W .typed made _ made-is .0) $
     returns ! (look ! 17 refl) $ leaves ! 5 (_ ∷ _ ∷ _ ∷ _ ∷ _ ∷ _ ∷ _ ∷ []) _ refl $
     ends ! f.ended (f.clauses 𝓤 H A mem run) params ((κs, qs, bounds, a, at), g) (openedVal α made) made (tt, (tt, (tt, tt))) (tt, (tt, (tt, tt))) $ says ! (ap (λ (o : formula.Opened). record { opening = o .opening; reader = record { text = s; cursor = o .cursor } }) e) $
     move ! (1 ∷ []) $ frame ! $ keep ! (2 ∷ 3 ∷ []) $
