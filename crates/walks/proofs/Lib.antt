@@ -6,3 +6,4 @@ pub mod Calls
 pub mod Lent
 pub mod Loans
 pub mod Ends
+pub mod Words
