@@ -11,13 +11,16 @@ use prog.Wp.{Heap}
 use ghost.Atoms.{Atoms, sem}
 use types.Kit.{Given, ‵, _⊛_, given, _$_, _∵_, !, qed, by, move, drop, use1, split, learn, fjoin, done}
 use denote.Builtin.{u8}
+use denote.Exit.{yes}
 use denote.Laws.{Is}
 use denote.Ref.{RefT, NamedLft}
+use denote.Signature.{plain, namedLft}
 use denote.Slice.{sliceVal, ShrSlice, shr-slice-copy}
 use denote.Steps.{owned, nothing}
 use denote.Enum.Laws as EL
 use denote.Struct.Laws as LL
 use denote.Struct.Rest.{all-own, ownAt, rest, own-open, own-out, own-shut}
+use Rattle.walks.proofs.Params.{Param, copied}
 use Rattle.dimacs.specs.declared.Opening.{Opening}
 use Rattle.dimacs.proofs.Opening as E
 use Rattle.dimacs.proofs.Opening.Laws as E′
@@ -40,6 +43,10 @@ openingVal o = EL.val E.the-type E′.the-laws o
 
 abbrev pub cursorVal : Cursor → Val
 cursorVal c = LL.val C.the-type C′.the-laws c
+
+-- A reader that is passed by value is as it was.
+abbrev pub byValue : Param {n = 1} (plain (λ κs. T.the-row (namedLft 1 0 tt κs))) yes
+byValue = copied 1 (λ κs. T.the-type (namedLft 1 0 tt κs)) (λ κs. T′.the-laws (namedLft 1 0 tt κs)) (λ κs x f. refl)
 
 module _ (α : NamedLft) where
   abbrev pub readerVal : Reader → Val

@@ -43,7 +43,7 @@ module _ {M : Type 1} {𝓤 : URA M} {H : Heap 𝓤} {A : Atoms 𝓤} {K : Type 
   -- The reference is opened: the cell, what the struct owns, and the open borrow.
   pub borrowed : K → Soaks G → (D : Declared) (L : LL.Laws D) (τ : Ty) → Lies D L τ → (ℓ : Lifetime) {κ : Lft} {q : Share} (x : RefT (D .D))
       → (Is (row D) (x .now) (LL.vals D L (x .now))
-        → Seq K W (‵ (Cell D L τ x (x .now)) ∷ ‵ (Owned D L (x .now)) ∷ ‵ (Opened D L κ q x) ∷ ‵ (fobs (x .name) (row D .coded .code (x .now))) ∷ ‵ (fauth (x .name) (row D .coded .code (x .now))) ∷ Γ) G)
+      → Seq K W (‵ (Cell D L τ x (x .now)) ∷ ‵ (Owned D L (x .now)) ∷ ‵ (Opened D L κ q x) ∷ ‵ (fobs (x .name) (row D .coded .code (x .now))) ∷ ‵ (fauth (x .name) (row D .coded .code (x .now))) ∷ Γ) G)
       → Seq K W (‵ (Lent D L ℓ κ x) ∷ ‵ (flft κ q) ∷ Γ) G
   borrowed t z D L τ lies ℓ x k =
       let b : ℕ = x .ptr .0 in

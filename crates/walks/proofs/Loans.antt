@@ -10,7 +10,7 @@ use mir.Val.{Val}
 use base.Fml.{Fml, GName, Lft, Share, fat, fsep, flft, fdead, fres, flent}
 use base.Logic.{wand, apply∗}
 use prog.Wp.{Heap}
-use ghost.Atoms.{Atoms, sem}
+use ghost.Atoms.{Atoms}
 use contract.BorrowLft.{meet-⊑-left}
 use types.Kit.{Given, Item, ‵, raw, _⊛_, some, later, Goal, Soaks, Seq, Step, step, _$_, move, use1, use2, use3, rewrite, split, pick, await, fsplit, fjoin, fpick, fpack}
 use types.SemTy.{Body}

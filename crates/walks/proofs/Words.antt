@@ -11,7 +11,6 @@ pub use prog.Wp.{Heap, Calls, Loops}
 pub use ghost.Atoms.{Atoms}
 pub use sound.WpLaws.{FmC}
 pub use contract.BorrowLft.{meet-⊑-right}
-pub use contract.Lifetimes.{Lfts}
 pub use contract.Monad.{Fun}
 pub use contract.Running.{givenOf}
 pub use denote.Builtin.{u8, i32, usize}
@@ -22,7 +21,6 @@ pub use denote.Ref.{RefT, NamedLft, now, MutRef}
 pub use denote.Signature.{namedLft}
 pub use denote.Slice.{sliceVal, ShrSlice, MutSlice, shr-slice-lawful, shr-slice-tells}
 pub use denote.Steps.{owned, nothing}
-pub use denote.Struct.Declared.{Declared, row}
 pub use denote.Triple.Statement.{Triple}
 pub use denote.Triple.Table.{cited}
 pub use denote.Triple.Walked.{says}

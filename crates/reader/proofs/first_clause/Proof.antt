@@ -15,7 +15,7 @@ use Rattle.reader.specs.Readers.{openedOn, Reads}
 use Rattle.reader.specs.declared.Reader.{Reader}
 use Rattle.reader.specs.declared.First.{First}
 use Rattle.reader.proofs.Held.{textVal, openingVal, readerVal, openedVal, Text, Own, text-twice, reader-out}
-use Rattle.reader.proofs.Firsts.{first-read}
+use Rattle.reader.proofs.Readers.{first-read}
 use Rattle.reader.proofs.Opened as P
 use Rattle.reader.proofs.Opened.Laws as P′
 use Rattle.reader.proofs.First as O

@@ -2,14 +2,14 @@
 use mathlib.Core.Path.{_≡_, refl}
 use mathlib.Core.List.{[], _∷_}
 use denote.Struct.Laws as LL
-use Rattle.walks.proofs.Words.{URA, named, w64, Val, vint, SProp, id⊢, ftrue, flft, Memory, Routine, Heap, Calls, Loops, Atoms, FmC, Fun, givenOf, u8, usize, Is, uint-makes, owns, NamedLft, now, namedLft, shr-slice-lawful, shr-slice-tells, owned, nothing, Triple, cited, says, Given, ‵, _⊛_, _$_, _∵_, !, qed, move, use1, split, fsplit, fjoin, frame, done, keep, whole, sub, look-in, look, stop, fld, from, and-then, no-more, of-opd, returns, load, Params, copied, enters, leaves, whole-of, field-of, puts, lands-in, Callee, calls-by, Walk, ends, proved}
+use Rattle.walks.proofs.Words.{URA, named, w64, Val, vint, SProp, id⊢, ftrue, flft, Memory, Routine, Heap, Calls, Loops, Atoms, FmC, Fun, givenOf, u8, usize, Is, uint-makes, owns, NamedLft, now, namedLft, shr-slice-lawful, shr-slice-tells, owned, nothing, Triple, cited, says, Given, ‵, _⊛_, _$_, _∵_, !, qed, move, use1, split, fsplit, fjoin, frame, done, keep, whole, sub, look-in, look, stop, fld, from, and-then, no-more, of-opd, returns, load, Params, enters, leaves, whole-of, field-of, puts, lands-in, Callee, calls-by, Walk, ends, proved}
 use Rattle.dimacs.specs.Tokens.{stoppedAt}
 use Rattle.formula.proofs.stopped_at as word
 use Rattle.formula.proofs.stopped_at.Symbol as word-def
 use Rattle.formula.proofs.stopped_at.Symbol.{name as #word}
 use Rattle.formula.proofs.stopped_at.Met as word-thm
 use Rattle.reader.specs.declared.Reader.{Reader}
-use Rattle.reader.proofs.Held.{textVal, readerVal, Text, Own, text-out}
+use Rattle.reader.proofs.Held.{byValue, textVal, readerVal, Text, Own, text-out}
 use Rattle.reader.proofs.Reader as T
 use Rattle.reader.proofs.Reader.Laws as T′
 use Rattle.reader.proofs.Reader.stopped_at.Key.{name as #stopped-at}
@@ -18,7 +18,7 @@ use Rattle.reader.proofs.Reader.stopped_at.Statement as stated
 use Rattle.reader.proofs.Reader.stopped_at.Code as code
 
 abbrev params : Params (f.signature .params) (f.ended .kept)
-params = (copied 1 (λ κs. T.the-type (namedLft 1 0 tt κs)) (λ κs. T′.the-laws (namedLft 1 0 tt κs)) (λ κs x f. refl), tt)
+params = (byValue, tt)
 
 walk : {M : Type 1} (𝓤 : URA M) (H : Heap 𝓤) (A : Atoms 𝓤) (W : Given 𝓤 H A) (mem : Memory → SProp 𝓤) (run : Routine → Fun 𝓤) (C : Calls 𝓤 H) (Λ : Loops 𝓤 H) → FmC 𝓤 H (W .laws) C → Triple 𝓤 (C #word) (Callee 𝓤 H A word.ended (word.clauses 𝓤 H A mem run))
     → Walk 𝓤 H A f.ended (f.clauses 𝓤 H A mem run) params C Λ code.function
