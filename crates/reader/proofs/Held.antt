@@ -1,4 +1,4 @@
--- What a reader owns: what its text owns, which can be had again and again, and facts of its cursor. Assumes `Given`.
+-- What a reader owns: what its text owns, which can be had again and again, and facts of its cursor. Assumes nothing.
 use Prim.Native.Nat.{ℕ}
 use mathlib.Core.List.{List, [], _∷_}
 use mathlib.Core.Path.{_≡_, refl}

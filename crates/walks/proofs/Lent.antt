@@ -1,4 +1,4 @@
--- A struct behind a `&mut`: opened, so that the walk reads and writes its cell, and closed at what the cell then holds. Assumes `Given`.
+-- A struct behind a `&mut`: opened, so that the walk reads and writes its cell, and closed at what the cell then holds. Assumes nothing.
 use Prim.Native.Nat.{ℕ}
 use mathlib.Core.List.{List, [], _∷_}
 use mathlib.Core.Path.{_≡_, refl, sym}

@@ -1,4 +1,4 @@
--- A local struct is lent by `&mut` for a call, for a lifetime that the walk makes, and is back at what the call left in it. Assumes `Given`.
+-- A local struct is lent by `&mut` for a call, for a lifetime that the walk makes, and is back at what the call left in it. Assumes nothing.
 use Prim.Native.Nat.{ℕ}
 use mathlib.Core.List.{List, [], _∷_}
 use mathlib.Core.Path.{refl, sym}

@@ -1,4 +1,4 @@
--- The locals of a function: all are made and its arguments stored as it is entered, and all are freed as it returns. Assumes `Given`.
+-- The locals of a function: all are made and its arguments stored as it is entered, and all are freed as it returns. Assumes nothing.
 use Prim.Native.Nat.{ℕ, zero, suc}
 use mathlib.Core.List.{List, [], _∷_, _++_}
 use mathlib.Core.Option.{Option, some, none}
@@ -31,6 +31,7 @@ abbrev pub ArgsTyped : List Local → List Val → Type 0
 ArgsTyped [] vs = ⊥
 ArgsTyped (l ∷ ls) vs = Typed ls vs
 
+-- What the first of the locals holds, and what the others hold.
 abbrev hd : List (Option Val) → Option Val
 hd [] = none
 hd (v ∷ vs) = v
@@ -39,11 +40,13 @@ abbrev tl : List (Option Val) → List (Option Val)
 tl [] = []
 tl (v ∷ vs) = vs
 
+-- Each holds a value.
 abbrev all : List Val → List (Option Val)
 all [] = []
 all (v ∷ vs) = some v ∷ all vs
 
 module _ {M : Type 1} (𝓤 : URA M) (H : Heap 𝓤) (A : Atoms 𝓤) where
+  -- The locals with their types and blocks.
   abbrev pub envOf : (ls : List Local) → Blocks ls → Env 𝓤 H
   envOf [] bs = []
   envOf (local τ h ∷ ls) bs = (τ, bs .0) ∷ envOf ls (bs .1)
@@ -58,6 +61,7 @@ module _ {M : Type 1} (𝓤 : URA M) (H : Heap 𝓤) (A : Atoms 𝓤) where
   cells [] vs Γ = Γ
   cells (e ∷ E) vs Γ = cells E (tl vs) (cell e (hd vs) ∷ ‵ (fdies (e .0) (e .1)) ∷ Γ)
 
+  -- The first n entries.
   abbrev front : ℕ → List (Item 𝓤) → List (Item 𝓤)
   front zero Γ = []
   front (suc n) [] = []
@@ -108,6 +112,7 @@ module _ {M : Type 1} (𝓤 : URA M) (H : Heap 𝓤) (A : Atoms 𝓤) where
       let C : SProp 𝓤 = ⋆ 𝓤 H A (cells E vs []) in
       via 𝓤 _ (monoR 𝓤 (mean 𝓤 H A i) (apart E vs Γ .parted)) (via 𝓤 _ (swapped (mean 𝓤 H A i) C (⋆ 𝓤 H A Γ)) (via 𝓤 _ (monoR 𝓤 C (push 𝓤 H A i Γ)) (apart E vs (i ∷ Γ) .joined)))
 
+  -- The arguments are stored.
   passed : (ls : List Local) (bs : Blocks ls) (vs : List Val) (Γ : List (Item 𝓤)) (P : SProp 𝓤) → Typed ls vs → ent 𝓤 (⋆ 𝓤 H A (cells (envOf ls bs) (all vs) Γ)) P
       → ent 𝓤 (⋆ 𝓤 H A (cells (envOf ls bs) [] Γ)) (pass 𝓤 H (envOf ls bs) vs P)
   passed ls bs [] Γ P wt k = k
@@ -135,6 +140,7 @@ module _ {M : Type 1} (𝓤 : URA M) (H : Heap 𝓤) (A : Atoms 𝓤) where
     as-room e (some v) = W .laws .at-room (e .0) (e .1) zero v
     as-room e none = id⊢ 𝓤 (H .room (e .0) (e .1) zero)
 
+    -- The locals are freed from behind the entries Δ.
     released : (E : Env 𝓤 H) (vs : List (Option Val)) (Δ Γ : List (Item 𝓤)) (P : SProp 𝓤) → ent 𝓤 (⋆ 𝓤 H A (Δ ++ Γ)) P → ent 𝓤 (⋆ 𝓤 H A (Δ ++ cells E vs Γ)) (release 𝓤 H E P)
     released [] vs Δ Γ P k = k
     released (e ∷ E) vs Δ Γ P k =

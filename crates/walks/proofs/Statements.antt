@@ -1,4 +1,4 @@
--- Statements over whole locals: what an operand reads, and where a value is put. Assumes `Given`.
+-- Statements over whole locals: what an operand reads, and where a value is put. Assumes nothing.
 use Prim.Native.Nat.{ℕ, zero, _+_}
 use mathlib.Core.List.{List, [], _∷_}
 use mathlib.Core.Option.{some}
