@@ -1,6 +1,8 @@
 // Numbers from the bytes of a frame, little-endian.
 ghost use mathlib.Core.Path.{_≡_};
 ghost use Prim.Native.Nat.{_+_, _*_};
+ghost use mir.Syntax.{Width};
+ghost use mir.Val.{toZ};
 
 fn wide(b: u8) -> u32
     ensures { λ r. ⌜ r ≡ b ⌝ }
@@ -24,4 +26,14 @@ pub fn le64(low: u32, high: u32) -> u64
     ensures { λ r. ⌜ r ≡ low + 4294967296 * high ⌝ }
 {
     (low as u64) + 4294967296 * (high as u64)
+}
+
+// The signed number that has these bits.
+pub fn signed32(n: u32) -> i32
+    ensures { λ r. ⌜ r ≡ toZ Width.w32 n ⌝ }
+{
+    if n <= 2147483647 {
+        return n as i32;
+    }
+    -1 - ((4294967295 - n) as i32)
 }
