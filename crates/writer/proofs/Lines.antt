@@ -18,9 +18,9 @@ use Rattle.dimacs.specs.declared.Format.{Format}
 use Rattle.dimacs.specs.declared.Format.the-variants.{Plain, Weighted, Grouped}
 use Rattle.dimacs.specs.declared.Header.{Header}
 use Rattle.dimacs.specs.declared.Refusal.{Refusal}
-use Rattle.dimacs.proofs.Tests.{tested}
+use Rattle.dimacs.proofs.Tests.{tested, chosen}
 use Rattle.writer.specs.Puts.{Puts, start, count}
-use Rattle.writer.specs.Answers.{Writes}
+use Rattle.writer.specs.Answers.{Writes, writtenOf, lineOf, lineLength}
 use Rattle.writer.specs.declared.Written.{Written}
 use Rattle.writer.specs.declared.Written.the-variants.{Line, Refused}
 use Rattle.writer.proofs.Digits.{few}
@@ -114,6 +114,29 @@ module _ (f : Format) (h : Header) (room : ℕ) where
   pub header-good : h .variables ≤ ceiling → def.writeHeader f h room ≡ def.fits room (headerLine f h)
   unfolding def.writeHeader
   header-good l = rw (le-leb (h .variables) ceiling l)
+
+-- What is written is no longer than the output.
+abbrev Within : ℕ → def.Written → Type 0
+Within room d = length (lineOf d) ≤ room
+
+fits-within : (room : ℕ) (line : List ℕ) → Within room (def.fits room line)
+fits-within room line = chosen (Within room) (leb (length line) room) (leb-true (length line) room) (λ t. omega arith)
+
+pub clause-within : (f : Format) (extra : ℕ) (so : List ℤ) (room : ℕ) → Within room (def.writeClause f extra so room)
+unfolding def.writeClause
+clause-within f extra so room = chosen (Within room) (leb (length so) (run isLiteral so)) (λ t. fits-within room (clauseLine f extra so)) (λ t. omega arith)
+
+pub header-within : (f : Format) (h : Header) (room : ℕ) → Within room (def.writeHeader f h room)
+unfolding def.writeHeader
+header-within f h room = chosen (Within room) (leb (h .variables) ceiling) (λ t. fits-within room (headerLine f h)) (λ t. omega arith)
+
+told : (d : def.Written) → lineLength (writtenOf d) ≡ length (lineOf d)
+told (def.written line) = refl
+told (def.unwritten r) = refl
+
+-- So is the length that is answered.
+pub line-within : {d : def.Written} {old new : List ℕ} {r : Written} → Within (length old) d → Writes d old new r → lineLength r ≤ length old
+line-within {d} h w = rw (w .answer, told d) h
 
 -- Two answers that the contract permits are equal, and leave the same output.
 pub one-writing : {d : def.Written} {old n₁ n₂ : List ℕ} {r₁ r₂ : Written} → Writes d old n₁ r₁ → Writes d old n₂ r₂ → (r₁ ≡ r₂) × (n₁ ≡ n₂)

@@ -22,6 +22,11 @@ abbrev pub lineOf : def.Written → List ℕ
 lineOf (def.written line) = line
 lineOf (def.unwritten r) = []
 
+-- How long a line an answer tells of, 0 if of none.
+abbrev pub lineLength : Written → ℕ
+lineLength (Line n) = n
+lineLength (Refused r) = 0
+
 -- The answer, and the output after it: the line, then what it held.
 pub record Writes (d : def.Written) (old new : List ℕ) (r : Written) : Type 0 where
   pub answer : r ≡ writtenOf d
