@@ -4,13 +4,16 @@
 The texts are those of document 01 ("Texts on both sides", the listing, the slips), those of
 READINGS.md, and some about frames, rooms and words. Prints `N checks, M wrong`.
 
-Usage: selfcheck.py [PROGRAM]   (by default the oracle as cargo builds it beside this file)
+Usage: selfcheck.py [PROGRAM [WRITER]]   (by default the oracle as cargo builds it beside this file;
+                                          PROGRAM takes texts, and WRITER calls of the writers)
 """
 
 import os
 import struct
 import subprocess
 import sys
+
+import calls
 
 PLAIN, WEIGHTED, GROUPED, LOG = range(4)
 STRICT, LENIENT = range(2)
@@ -158,18 +161,51 @@ case(b"\n" * 65537, "long")
 case(b"", NONE, "end")
 
 
+CALLS = []
+
+
+def call(answer, numbers=(0, 0, 0), lits=(), format=PLAIN, kind=calls.CLAUSE, length=100):
+    """One call of a writer, and the line written or the refusal's words."""
+    said = f"written {len(answer)} {answer.hex()}" if isinstance(answer, bytes) else answer
+    CALLS.append((calls.frame(format, kind, length, numbers, lits), said))
+
+
+# The writers: document 01's bytes, and its refusals in their order.
+call(b"p cnf 3 2\n", (3, 2, 9), kind=calls.HEADER)
+call(b"p wcnf 0 10 18446744073709551615\n", (0, 10, 2**64 - 1), format=WEIGHTED, kind=calls.HEADER)
+call(b"p gcnf 2147483647 99 100\n", (2**31 - 1, 99, 100), format=GROUPED, kind=calls.HEADER)
+call(b"1 -3 0\n", (5, 0, 0), (1, -3))
+call(b"0\n")
+call(b"9223372036854775808 2147483647 -2147483647 0\n", (2**63, 0, 0), (2**31 - 1, 1 - 2**31), format=WEIGHTED)
+call(b"7 0\n", (7, 0, 0), format=WEIGHTED)
+call(b"{0} -9 0\n", lits=(-9,), format=GROUPED)
+call(b"{18446744073709551615} 0\n", (2**64 - 1, 0, 0), format=GROUPED)
+call(b"1 0\n", lits=(1,), length=4)
+call("refused 28 0 0", lits=(1,), length=3)
+call("refused 28 0 0", (1, 1, 0), kind=calls.HEADER, length=9)
+call("refused 10 0 0", (2**31, 0, 0), kind=calls.HEADER, length=0)
+call("refused 27 1 0", lits=(1, 0, -(2**31)), length=0)
+call("refused 27 0 0", lits=(-(2**31),))
+call("refused 26 0 0", format=LOG)
+call("refused 26 0 0", kind=2)
+call("long", lits=(1,) * 8193)
+call(b"0\n", length=2**32 - 1)
+
+
 def frame(format, mode, room, text):
     return struct.pack("<BBII", format, mode, room, len(text)) + text
 
 
-def run(program, frames):
-    return subprocess.run([program], input=frames, stdout=subprocess.PIPE, check=True).stdout
+def run(command, frames):
+    return subprocess.run(command, input=frames, stdout=subprocess.PIPE, check=True).stdout
 
 
 def main():
     here = os.path.dirname(os.path.abspath(__file__))
     target = os.environ.get("CARGO_TARGET_DIR", os.path.join(here, "target"))
-    program = sys.argv[1] if len(sys.argv) > 1 else os.path.join(target, "release", "oracle")
+    oracle = os.path.join(target, "release", "oracle")
+    program = sys.argv[1] if len(sys.argv) > 1 else oracle
+    writer = sys.argv[2:3] or [oracle, "written"]
 
     checks = wrong = 0
 
@@ -181,7 +217,7 @@ def main():
             print(f"{what}\n  expected {expected}\n  got      {got}")
 
     frames = b"".join(frame(*one[:4]) for one in CASES)
-    answers = run(program, frames).decode().split("case ")[1:]
+    answers = run([program], frames).decode().split("case ")[1:]
     check("the number of cases", len(answers), len(CASES))
     for number, ((*_, lines), answer) in enumerate(zip(CASES, answers)):
         format, mode, room, text, _ = CASES[number]
@@ -191,12 +227,22 @@ def main():
     # A frame that standard input cuts off.
     whole = frame(PLAIN, STRICT, 4096, b"1 0\n")
     said = b"case 0\nheader none\nclause 1\nend\n"
-    check("nothing at all", run(program, b""), b"")
-    check("a whole frame", run(program, whole), said)
+    check("nothing at all", run([program], b""), b"")
+    check("a whole frame", run([program], whole), said)
     for length in range(1, len(whole)):
-        check(f"{length} bytes of a frame", run(program, whole + whole[:length]), said + b"case 1\ncut\n")
+        check(f"{length} bytes of a frame", run([program], whole + whole[:length]), said + b"case 1\ncut\n")
     long = frame(PLAIN, STRICT, 4096, b"\n" * 65537)
-    check("a long text cut off", run(program, long[:-1]), b"case 0\nlong\ncut\n")
+    check("a long text cut off", run([program], long[:-1]), b"case 0\nlong\ncut\n")
+
+    # Calls of the writers, and one that standard input cuts off.
+    answers = run(writer, b"".join(asked for asked, _ in CALLS)).decode().split("case ")[1:]
+    check("the number of calls", len(answers), len(CALLS))
+    for number, ((asked, line), answer) in enumerate(zip(CALLS, answers)):
+        check(f"call {asked[:80].hex()}", answer.splitlines(), [str(number), line])
+    whole = calls.frame(PLAIN, calls.CLAUSE, 100, (0, 0, 0), (1, 2))
+    for length in range(len(whole)):
+        said = b"case 0\ncut\n" if length else b""
+        check(f"{length} bytes of a call", run(writer, whole[:length]), said)
 
     print(f"{checks} checks, {wrong} wrong")
     return 1 if wrong else 0

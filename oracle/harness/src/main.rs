@@ -1,11 +1,16 @@
 //! Reads framed cases from standard input, has flussab-cnf read each text, and writes what it
-//! answered to standard output in document 01's terms. README.md has the two formats.
+//! answered to standard output in document 01's terms. With the argument `written` the cases are
+//! calls, and flussab-cnf writes the lines. README.md has the formats.
 
 mod answer;
 mod lit;
 mod refusal;
+mod written;
 
-use std::io::{self, BufReader, Read, Write};
+use std::{
+    env,
+    io::{self, BufReader, Read, Write},
+};
 
 /// A longer text is not read.
 const LONGEST: u32 = 65_536;
@@ -17,6 +22,11 @@ const MOST_ROOM: u32 = 4_096;
 const BLOCK: usize = 1 << 20;
 
 fn main() -> io::Result<()> {
+    let one_case = match env::args().nth(1).as_deref() {
+        None => one_text,
+        Some("written") => written::one_call,
+        Some(other) => panic!("{other} is no kind of cases"),
+    };
     let mut input = BufReader::with_capacity(BLOCK, io::stdin().lock());
     let mut output = io::stdout().lock();
     let mut transcript = Vec::with_capacity(2 * BLOCK);
@@ -35,10 +45,10 @@ fn main() -> io::Result<()> {
     output.flush()
 }
 
-/// Reads and answers one case. Answers whether there may be another.
-fn one_case(
+/// Reads a text and answers it. Answers whether there may be another.
+fn one_text(
     case: u64,
-    input: &mut impl Read,
+    input: &mut dyn Read,
     text: &mut Vec<u8>,
     transcript: &mut Vec<u8>,
 ) -> io::Result<bool> {
@@ -60,11 +70,7 @@ fn one_case(
 
     if length > LONGEST {
         writeln!(transcript, "long")?;
-        let skipped = io::copy(&mut input.take(length.into()), &mut io::sink())?;
-        if skipped < length.into() {
-            writeln!(transcript, "cut")?;
-        }
-        return Ok(skipped == length.into());
+        return skip(length.into(), input, transcript);
     }
 
     text.resize(length as usize, 0);
@@ -77,8 +83,17 @@ fn one_case(
     Ok(true)
 }
 
+/// Passes over so many bytes. Answers whether they came.
+fn skip(length: u64, input: &mut dyn Read, transcript: &mut Vec<u8>) -> io::Result<bool> {
+    let skipped = io::copy(&mut input.take(length), &mut io::sink())?;
+    if skipped < length {
+        writeln!(transcript, "cut")?;
+    }
+    Ok(skipped == length)
+}
+
 /// Fills the buffer as far as the input goes. Answers how many bytes came.
-fn read_fully(input: &mut impl Read, buffer: &mut [u8]) -> io::Result<usize> {
+fn read_fully(input: &mut dyn Read, buffer: &mut [u8]) -> io::Result<usize> {
     let mut found = 0;
     while found < buffer.len() {
         match input.read(&mut buffer[found..]) {
