@@ -31,6 +31,15 @@ def frame(format, kind, length, numbers, lits=()):
     return FRAME.pack(format, kind, length, *numbers, len(lits)) + struct.pack(f"<{len(lits)}i", *lits)
 
 
+def shown(path):
+    """Each call of a file of frames in words; of many literals the first."""
+    with open(path, "rb") as file:
+        while head := file.read(FRAME.size):
+            format, kind, length, *numbers, count = FRAME.unpack(head)
+            lits = struct.unpack(f"<{count}i", file.read(4 * count).ljust(4 * count, b"\0"))
+            yield f"format {format}, kind {kind}, output {length}, numbers {numbers}, {count} literals {list(lits[:8])}"
+
+
 def long_line(format, kind, numbers, lits):
     """How long the line would be: only to choose lengths of the output beside it."""
     if kind == HEADER:

@@ -1,11 +1,12 @@
 #!/usr/bin/env python3
-"""Shows that the vectors can fail: each wrong reader of the must-fail edits answers them, unproved.
+"""Shows that the vectors can fail: each wrong reader and writer of the must-fail edits answers them, unproved.
 
 Usage: slips.py [CRATE | CRATE/EDIT]...
 
-For each edit named, or of the code of the named crates (those of the readers by default), a copy of the repository is
-edited, the program `answers` is built from it without proof and given the vectors, and the first case that it
-answers otherwise than the oracle is printed with its text. Edits that no case shows are printed as such.
+For each edit named, or of the code of the named crates (those of the readers and of the writer by default), a copy of the
+repository is edited, the program `answers`, or `written` for the writer, is built from it without proof and given the
+vectors, and the first case that it answers otherwise than the oracle is printed. Edits that no case shows are printed
+as such.
 """
 
 import pathlib
@@ -15,10 +16,11 @@ import subprocess
 import sys
 import tempfile
 
+import calls
 from framed import frames
 
 ROOT = pathlib.Path(__file__).resolve().parent.parent
-READERS = ["token", "header", "clause", "formula", "sat_solver_log"]
+CRATES = ["token", "header", "clause", "formula", "sat_solver_log", "writer"]
 
 
 def edited(crate, edit):
@@ -39,12 +41,18 @@ def edited(crate, edit):
     return file
 
 
+def texts(path):
+    for format, mode, room, text in frames(path):
+        yield f"format {format}, mode {mode}, room {room}, {text!r}"
+
+
 def main():
-    cases = list(frames(ROOT / "crates/answers/stdin"))
-    expected = (ROOT / "crates/answers/stdout").read_bytes()
     caught = missed = 0
-    for wanted in sys.argv[1:] or READERS:
+    for wanted in sys.argv[1:] or CRATES:
         name, _, only = wanted.partition("/")
+        program, shown = ("written", calls.shown) if name == "writer" else ("answers", texts)
+        cases = list(shown(ROOT / "crates" / program / "stdin"))
+        expected = (ROOT / "crates" / program / "stdout").read_bytes()
         for edit in sorted((ROOT / "crates" / name / "must-fail").glob(f"{only or '*'}.edit")):
             with tempfile.TemporaryDirectory() as work:
                 work = pathlib.Path(work)
@@ -52,15 +60,14 @@ def main():
                 shutil.copy(ROOT / "crates.txt", work)
                 if edited(work / "crates" / name, edit) is None:
                     continue
-                said = subprocess.run(["rt", "try", "answers"], cwd=work, capture_output=True, text=True, errors="replace").stdout
+                said = subprocess.run(["rt", "try", program], cwd=work, capture_output=True, text=True, errors="replace").stdout
             native = said[said.find("the native program") :]
             differs = re.search(r"on standard output, at byte (\d+)", native)
             what = edit.read_text().splitlines()[0].lstrip("# ")
             if differs:
                 caught += 1
                 number = int(re.findall(rb"^case (\d+)$", expected[: int(differs[1]) + 1], re.M)[-1])
-                format, mode, room, text = cases[number]
-                print(f"{name}/{edit.stem}: {what}: case {number}, format {format}, mode {mode}, room {room}, {text!r}")
+                print(f"{name}/{edit.stem}: {what}: case {number}, {cases[number]}")
             elif "ok: the native program" in native:
                 missed += 1
                 print(f"{name}/{edit.stem}: {what}: NOT SEEN")
