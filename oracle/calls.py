@@ -90,6 +90,13 @@ def limits():
     yield frame(0, CLAUSE, 200, [0, 0, 0], [1, 2])[:-1]
 
 
+def longest():
+    """Lines as long as the longest output, and one byte longer."""
+    for last in 1, -1:
+        for length in LONGEST_OUTPUT - 1, LONGEST_OUTPUT, LONGEST_OUTPUT + 1, 2**32 - 1:
+            yield frame(0, CLAUSE, length, [0, 0, 0], [-CEILING] * (LONGEST_OUTPUT // 12) + [last])
+
+
 def some(count, seed):
     """So many random calls."""
     draw = random.Random(seed)
