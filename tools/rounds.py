@@ -3,7 +3,8 @@
 
 rounds.py [--runs N] [--calls N] [--seed N]   makes random runs of calls, gives each to ./run rounds, and compares what it prints line by line
 rounds.py --slips                             gives a run to wrong trays and wrong readers, each of which must differ from what the program prints
-rounds.py --sample DIR                        writes DIR/stdin, a run with every kind of answer, and DIR/stdout, what the tray here says of it
+rounds.py --sample DIR                        writes DIR/stdin, a run with every kind of answer on which every wrong model differs, and DIR/stdout, what
+                                              the tray here says of it
 
 The tray here is a plain list of jobs, and the reader goes by regular expressions, so that a slip in the definition or the code and the same
 slip here are unlikely to meet. Refusal 25 is not reached: it takes 2^64 - 1 tickets. The exit status is 1 if anything is not as it must be.
@@ -503,7 +504,8 @@ class Feeder:
         rng, size = self.rng, len(self.tray.area)
         format, start, length = rng.choice(self.parts or [(rng.randrange(3), 0, size)])
         mode = rng.choice([STRICT, STRICT, LENIENT])
-        how = rng.random()
+        # A full tray is often put to with a second fault, so that the order of the tests is seen; so is an empty one asked for a turn.
+        how = rng.random() * (0.2 if len(self.tray.waiting) == PLACES else 1)
         if how < 0.04:
             format, mode = rng.choice([(3, STRICT), (255, mode), (format, 2), (format, 255), (4, 7)])
         if how < 0.06 or how > 0.95:
@@ -521,7 +523,8 @@ class Feeder:
     def turn(self):
         rng, size = self.rng, len(self.tray.area)
         lent = rng.choice([size] * 12 + [size + 1, 2**32 - 1, AREA, 2 * AREA]) if rng.random() < 0.97 else rng.randint(0, size)
-        room = rng.choice([ROOM, ROOM + 1, 4096, 4096, 4097, 2**32 - 1]) if rng.random() < 0.95 else rng.choice([0, 1, ROOM - 1])
+        short = rng.random() < (0.05 if self.tray.waiting else 0.3)
+        room = rng.choice([0, 1, ROOM - 1] if short else [ROOM, ROOM + 1, 4096, 4096, 4097, 2**32 - 1])
         return lent, room
 
     def withdraw(self):
@@ -631,7 +634,7 @@ def compare(runs, calls, seed):
 
 def slips(calls, seed):
     rng = random.Random(seed)
-    given = run_of(rng, calls, AREA)
+    given = run_of(rng, 5 * calls, AREA)
     said = program(given)
     unseen = 0
     for wrong in [Tray, *SLIPS]:
@@ -648,7 +651,7 @@ def sample(folder, seed):
     while True:
         given = run_of(rng, 4000, 12000)
         said = lines(given)
-        if WANTED <= set(map(kind_of, said)):
+        if WANTED <= set(map(kind_of, said)) and all(lines(given, wrong) != said for wrong in SLIPS):
             break
     folder.joinpath("stdin").write_bytes(given)
     folder.joinpath("stdout").write_text("".join(line + "\n" for line in said))
