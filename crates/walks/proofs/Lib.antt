@@ -5,5 +5,6 @@ pub mod Statements
 pub mod Calls
 pub mod Lent
 pub mod Loans
+pub mod Copies
 pub mod Ends
 pub mod Words
