@@ -2,6 +2,7 @@
 pub mod Params
 pub mod Locals
 pub mod Statements
+pub mod Pairs
 pub mod Calls
 pub mod Lent
 pub mod Loans

@@ -8,6 +8,7 @@ use denote.Struct.Laws as LL
 use denote.Enum.Laws as EL
 use Rattle.walks.proofs.Words.{URA, named, w64, Val, vint, vptr, SProp, id⊢, ftrue, flft, Memory, Routine, Heap, Calls, Loops, Atoms, FmC, Fun, givenOf, Is, owns, RefT, MutRef, owned, Triple, cited, says, Given, ‵, _⊛_, _$_, _∵_, !, qed, move, drop, split, join, fsplit, fjoin, frame, done, whole, sub, look-in, store-in, look, stop, hop, from, and-then, no-more, of-opd, returns, load, assigns, Params, number, lent, enters, leaves, whole-of, field-of, puts, lands-in, Callee, calls-by, borrowed, given-back, Walk, ends, proved}
 use Rattle.walks.proofs.Copies.{copies}
+use Rattle.walks.proofs.Pairs.{first-of, second-of}
 use Rattle.tray.specs.Ring.{withdrawOf}
 use Rattle.tray.specs.declared.Tray.{Tray}
 use Rattle.tray.specs.declared.WithdrawDone.{WithdrawDone}
@@ -48,18 +49,20 @@ walk 𝓤 H A W mem run C Λ fm known κs qs bounds a g are =
     calls-by ! fm call.ended (call.clauses 𝓤 H A mem run) known ((tt, tt, tt, (t, (k, tt)), (LL.vals T.the-type T′.the-laws t, (vint w64 k ∷ [], tt))), tt) (LL.val D.the-type D′.the-laws) (LL.tells D.the-type D′.the-laws) refl (id⊢ 𝓤 _)
     (λ r ws. r ≡ withdrawOf t k) (λ r ws. id⊢ 𝓤 _)
     (and-then ! (whole-of ! 6 refl) (and-then ! (whole-of ! 10 refl) (no-more !))) (λ r ws e done-is.
-    let tray-is : Is T.the-row (r .tray) (LL.vals T.the-type T′.the-laws (r .tray)) = LL.owed D.the-type D′.the-laws r _ done-is .0 in
-    let answer-is : Is E.the-row (r .answer) (EL.val E.the-type E′.the-laws (r .answer) ∷ []) = LL.owed D.the-type D′.the-laws r _ done-is .1 .0 in
+    let trayed : Val = LL.val T.the-type T′.the-laws (r .tray) in
+    let answered : Val = EL.val E.the-type E′.the-laws (r .answer) in
+    let tray-is : Is T.the-row (r .tray) (trayed ∷ []) = LL.owed D.the-type D′.the-laws r _ done-is .0 in
+    let answer-is : Is E.the-row (r .answer) (answered ∷ []) = LL.owed D.the-type D′.the-laws r _ done-is .1 .0 in
     -- [what came back owns; true; …; the ticket's; the cell; the open borrow; obs; auth; _4; …; _3; …; _2; …; _1; …; _0; …]
     lands-in ! 10 refl (LL.lawful D.the-type D′.the-laws 𝓤 H A W .typed r _ done-is .0) $
     assigns ! (of-opd ! (field-of ! 10 refl (sub ! 0 refl (whole !)))) (from ! (hop ! (look ! 14 refl) (stop !))) (store-in ! 4 (whole !) (LL.lawful T.the-type T′.the-laws 𝓤 H A W .typed (r .tray) _ tray-is .0)) $
-    puts ! (of-opd ! (field-of ! 10 refl (sub ! 1 refl (whole !)))) 16 refl (EL.lawful E.the-type E′.the-laws 𝓤 H A W tt .typed (r .answer) _ answer-is .0) $
+    puts ! (of-opd ! (second-of ! 10 T′.mir E′.mir trayed answered refl refl)) 16 refl (EL.lawful E.the-type E′.the-laws 𝓤 H A W tt .typed (r .answer) _ answer-is .0) $
     -- the borrow is closed at the tray that came back
     owned ! T.the-row (Is T.the-row) (LL.makes T.the-type T′.the-plain 𝓤 H A) (r .tray) _ tray-is $ move ! (5 ∷ 0 ∷ 6 ∷ 7 ∷ 8 ∷ []) $
     given-back ! tt T.the-type T′.the-laws T′.mir (λ v b o. refl) (named 0) x (r .tray) $
     returns ! (look ! 14 refl) $ leaves ! 6 (_ ∷ _ ∷ _ ∷ _ ∷ _ ∷ []) _ refl $
     -- [the reference; its token; what came back owns; true; …; the ticket's]
-    ends ! f.ended (f.clauses 𝓤 H A mem run) params ((κs, qs, bounds, a, at), g) (EL.val E.the-type E′.the-laws (r .answer)) (r .answer) (r .tray, (tt, tt)) (tt, (tt, tt)) $
+    ends ! f.ended (f.clauses 𝓤 H A mem run) params ((κs, qs, bounds, a, at), g) answered (r .answer) (r .tray, (tt, tt)) (tt, (tt, tt)) $
     says ! (record { answer = ap (λ (z : WithdrawDone). z .answer) e; tray = ap (λ (z : WithdrawDone). z .tray) e }) $
     move ! (1 ∷ 3 ∷ []) $ join ! $ frame ! $ move ! (0 ∷ 3 ∷ []) $ fjoin ! $ frame ! $
     drop ! $ drop ! $ owned ! E.the-row (Is E.the-row) (EL.makes E.the-type E′.the-plain 𝓤 H A) (r .answer) _ answer-is $ done !)))
