@@ -64,7 +64,7 @@ walk 𝓤 H A W mem run C Λ fm known κs qs bounds a g are =
     let answer-is : Is E.the-row (r .answer) (answered ∷ []) = LL.owed D.the-type D′.the-laws r _ done-is .1 .0 in
     -- [what came back owns; area's token; …; the others'; the cell; the open borrow; obs; auth; _8; …; _7; …; _6; …; _5; …; _4; …; _3; …; _2; …; _1; …; _0; …]
     lands-in ! 10 refl (LL.lawful D.the-type D′.the-laws 𝓤 H A W .typed r _ done-is .0) $
-    assigns ! (of-opd ! (field-of ! 10 refl (sub ! 0 refl (whole !)))) (from ! (hop ! (look ! 22 refl) (stop !))) (store-in ! 4 (whole !) (LL.lawful T.the-type T′.the-laws 𝓤 H A W .typed (r .tray) _ tray-is .0)) $
+    assigns ! (of-opd ! (first-of ! 10 T′.mir E′.mir trayed answered refl refl)) (from ! (hop ! (look ! 22 refl) (stop !))) (store-in ! 4 (whole !) (LL.lawful T.the-type T′.the-laws 𝓤 H A W .typed (r .tray) _ tray-is .0)) $
     puts ! (of-opd ! (second-of ! 10 T′.mir E′.mir trayed answered refl refl)) 24 refl (EL.lawful E.the-type E′.the-laws 𝓤 H A W tt .typed (r .answer) _ answer-is .0) $
     -- the borrow is closed at the tray that came back
     owned ! T.the-row (Is T.the-row) (LL.makes T.the-type T′.the-plain 𝓤 H A) (r .tray) _ tray-is $ move ! (5 ∷ 0 ∷ 6 ∷ 7 ∷ 8 ∷ []) $

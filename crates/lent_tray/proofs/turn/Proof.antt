@@ -63,7 +63,7 @@ walk 𝓤 H A W mem run C Λ fm known κs qs bounds a g are =
     move ! (2 ∷ []) $ fsplit ! $ drop ! $ fsplit ! $ drop ! $ fsplit ! $ fsplit ! $ move ! (1 ∷ []) $ feqL ! (λ len.
     -- [lits's last list; true; what came back owns; the others' tokens; area's; the cell; the open borrow; obs; auth; _7; …; _6; …; _5; …; _4; …; _3; …; _2; …; _1; …; _0; …]
     lands-in ! 15 refl (LL.lawful D.the-type D′.the-laws 𝓤 H A W .typed r _ done-is .0) $
-    assigns ! (of-opd ! (field-of ! 15 refl (sub ! 0 refl (whole !)))) (from ! (hop ! (look ! 21 refl) (stop !))) (store-in ! 5 (whole !) (LL.lawful T.the-type T′.the-laws 𝓤 H A W .typed (r .tray) _ tray-is .0)) $
+    assigns ! (of-opd ! (first-of ! 15 T′.mir E′.mir trayed answered refl refl)) (from ! (hop ! (look ! 21 refl) (stop !))) (store-in ! 5 (whole !) (LL.lawful T.the-type T′.the-laws 𝓤 H A W .typed (r .tray) _ tray-is .0)) $
     puts ! (of-opd ! (second-of ! 15 T′.mir E′.mir trayed answered refl refl)) 23 refl (EL.lawful E.the-type E′.the-laws 𝓤 H A W tt .typed (r .answer) _ answer-is .0) $
     -- the borrow is closed at the tray that came back
     owned ! T.the-row (Is T.the-row) (LL.makes T.the-type T′.the-plain 𝓤 H A) (r .tray) _ tray-is $ move ! (6 ∷ 0 ∷ 7 ∷ 8 ∷ 9 ∷ []) $

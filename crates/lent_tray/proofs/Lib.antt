@@ -1,0 +1,2 @@
+-- What follows from the promises of a lent tray.
+pub mod Lent
