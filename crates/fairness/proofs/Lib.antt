@@ -3,3 +3,4 @@ pub mod Rings
 pub mod Desk
 pub mod Reader
 pub mod Promises
+pub mod Lending

@@ -1,2 +1,3 @@
--- What the tray promises.
+-- What the tray promises, and what a lent one does.
 pub mod Promises
+pub mod Lending

@@ -5,7 +5,7 @@ use base.Logic.{ent, sep}
 use base.Fml.{Fml, ftrue}
 use prog.Wp.{Heap}
 use ghost.Atoms.{Atoms, sem}
-use types.Kit.{Given, Item, ‵, _⊛_, Goal, Seq, Step, step, _$_, _∵_, !, qed, move, use1, split, fjoin, frame, done}
+use types.Kit.{Given, Item, ‵, _⊛_, Goal, Step, step, _$_, _∵_, !, qed, move, use1, split, fjoin, frame, done}
 use denote.Laws.{Copy}
 use denote.RattleType.{RattleType, Denots, Valss, owns}
 

@@ -7,7 +7,7 @@ use denote.Plain.{uint-copy}
 use denote.Slice.{shr-slice-copy}
 use denote.Struct.Laws as LL
 use denote.Enum.Laws as EL
-use Rattle.walks.proofs.Words.{URA, named, w8, w64, Val, vint, vptr, SProp, id⊢, ftrue, flft, Memory, Routine, Heap, Calls, Loops, Atoms, FmC, Fun, givenOf, u8, usize, Is, owns, RefT, MutRef, sliceVal, ShrSlice, shr-slice-lawful, owned, Triple, cited, says, Given, ‵, _⊛_, _$_, _∵_, !, qed, move, drop, split, join, fsplit, fjoin, frame, done, whole, sub, look-in, store-in, look, stop, hop, from, and-then, no-more, of-opd, returns, load, assigns, Params, number, shared, lent, enters, leaves, whole-of, field-of, puts, lands-in, Callee, calls-by, borrowed, given-back, Walk, ends, proved}
+use Rattle.walks.proofs.Words.{URA, named, w8, w64, Val, vint, vptr, SProp, id⊢, ftrue, flft, Memory, Routine, Heap, Calls, Loops, Atoms, FmC, Fun, givenOf, u8, usize, Is, owns, RefT, MutRef, sliceVal, ShrSlice, shr-slice-lawful, owned, Triple, cited, says, Given, ‵, _⊛_, _$_, _∵_, !, qed, move, drop, split, join, fsplit, fjoin, frame, done, whole, look-in, store-in, look, stop, hop, from, and-then, no-more, of-opd, returns, load, assigns, Params, number, shared, lent, enters, leaves, whole-of, puts, lands-in, Callee, calls-by, borrowed, given-back, Walk, ends, proved}
 use Rattle.walks.proofs.Copies.{copies}
 use Rattle.walks.proofs.Pairs.{first-of, second-of}
 use Rattle.tray.specs.Ring.{Put, putOf}

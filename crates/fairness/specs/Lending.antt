@@ -1,0 +1,87 @@
+-- What the tray promises over any calls on a fresh tray that is lent, each on what the last one left behind the reference.
+use Prim.Native.Nat.{ℕ, _+_, _*_, _/_, _≤_}
+use mathlib.Core.Bool.{false}
+use mathlib.Core.List.{List, [], _∷_, map}
+use mathlib.Core.Option.{some}
+use mathlib.Core.Path.{_≡_}
+use lib.ListN.{length}
+use lib.IntN.{ℤ}
+use Rattle.dimacs.specs.Names.{formatOf, modeOf, places}
+use Rattle.dimacs.specs.declared.Format.{Format}
+use Rattle.dimacs.specs.declared.Mode.{Mode}
+use Rattle.rota.specs.Rota as rota
+use Rattle.rota.specs.Rota.{Call, Answer, tickets, verdicts, withdrawals, isWithdrawn, turns, heard, toTheLast, AtOwnTurns}
+use Rattle.tray.specs.declared.Tray.{Tray}
+use Rattle.tray.specs.declared.PutAnswer.{PutAnswer}
+use Rattle.tray.specs.declared.PutAnswer.the-variants as putting
+use Rattle.tray.specs.declared.TurnAnswer.{TurnAnswer}
+use Rattle.tray.specs.declared.WithdrawAnswer.{WithdrawAnswer}
+use Rattle.tray.specs.Ring.{emptyTray, waiting, Put, Reply}
+use Rattle.tray.specs.Answers.{putSays, turnSays, withdrawSays}
+use Rattle.lent_tray.specs.Lent.{Puts, Turns, Withdraws}
+use Rattle.fairness.specs.Promises.{Lent, Calls, Holds, saidAlone}
+
+-- A call as it went: what it named or was lent, its answer, and the tray that it left; after a turn also what the buffer then held.
+pub data Event : Type 0 where
+  put : Put → PutAnswer → Tray → Event
+  turn : Lent → TurnAnswer → List ℤ → Tray → Event
+  withdraw : ℕ → WithdrawAnswer → Tray → Event
+
+-- The call.
+abbrev pub callIn : Event → Call Put Lent
+callIn (put p a u) = rota.put p
+callIn (turn e a new u) = rota.turn e
+callIn (withdraw k a u) = rota.withdraw k
+
+-- What its answer says.
+abbrev pub saidIn : Event → Answer Reply
+saidIn (put p a u) = putSays a
+saidIn (turn e a new u) = turnSays new a
+saidIn (withdraw k a u) = withdrawSays a
+
+-- The tray that it left.
+abbrev pub leftIn : Event → Tray
+leftIn (put p a u) = u
+leftIn (turn e a new u) = u
+leftIn (withdraw k a u) = u
+
+-- It kept the contract of `put`, `turn` or `withdraw` on a lent tray.
+abbrev pub Keeps : Tray → Event → Type 0
+Keeps t (put p a u) = Puts t p u a
+Keeps t (turn e a new u) = Turns t (e .area) (e .buffer) new u a
+Keeps t (withdraw k a u) = Withdraws t k u a
+
+-- So did each, on the tray that the last one left.
+abbrev pub Kept : Tray → List Event → Type 0
+Kept t [] = Unit {0}
+Kept t (e ∷ es) = Keeps t e × Kept (leftIn e) es
+
+-- The tray at last.
+abbrev pub finally : Tray → List Event → Tray
+finally t [] = t
+finally t (e ∷ es) = finally (leftIn e) es
+
+-- What the answers say.
+abbrev pub said : List Event → List (Answer Reply)
+said es = map saidIn es
+
+-- The calls.
+abbrev pub called : List Event → Calls
+called es = map callIn es
+
+-- The account.
+abbrev pub LentAccount : Type 0
+LentAccount =
+    (es : List Event) → Kept emptyTray es
+    → length (tickets (said es)) ≡ verdicts (said es) + withdrawals (said es) + length (waiting (finally emptyTray es))
+
+-- What a job's ticket has heard after so many turns.
+abbrev pub LentDemand : Type 0
+LentDemand =
+    (before : List Event) (p : Put) (k : ℕ) (t : Tray) (after : List Event) (f : Format) (m : Mode) (bytes : List ℕ)
+    → Kept emptyTray before → Puts (finally emptyTray before) p t (putting.Ticket k) → Kept t after
+    → formatOf (p .format) ≡ some f → modeOf (p .mode) ≡ some m
+    → isWithdrawn k (said after) ≡ false
+    → AtOwnTurns (Holds p bytes) k (called after) (said after)
+    → places * (2 + (p .length + 1) / 2) ≤ turns (said after)
+    → heard k (said after) ≡ toTheLast (saidAlone f m bytes)
