@@ -7,7 +7,14 @@ use tray::TurnAnswer;
 use tray::WithdrawAnswer;
 
 // A job of a format and a mode by their numbers, whose text is the part of the area from `start` on that is `length` long.
-pub fn put(tray: &mut Tray, format: u8, mode: u8, start: usize, length: usize, area: &[u8]) -> PutAnswer
+pub fn put(
+    tray: &mut Tray,
+    format: u8,
+    mode: u8,
+    start: usize,
+    length: usize,
+    area: &[u8],
+) -> PutAnswer
     ensures { λ r. ⌜ Puts (now (tray .entry)) (record { format = format; mode = mode; start = start; length = length; lent = list.length (now (area .entry)) }) (now (tray .exit)) r ⌝ }
 {
     let done = tray::put(*tray, format, mode, start, length, area);
