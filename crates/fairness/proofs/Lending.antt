@@ -1,13 +1,15 @@
 -- A lent tray keeps the promises: each call is one call of which they speak, on the same record. Assumes nothing.
+use Prim.Native.Nat.{ℕ}
 use mathlib.Core.List.{List, [], _∷_}
 use mathlib.Core.Path.{_≡_, refl, ap, sym, _∙_}
 use Rattle.rota.specs.Rota as rota
 use Rattle.rota.specs.Rota.{Done, does, answers, ticketed}
 use Rattle.tray.specs.declared.Tray.{Tray}
-use Rattle.tray.specs.Ring.{emptyTray, Reply}
-use Rattle.fairness.specs.Promises.{did, left, thenPut, since}
-use Rattle.fairness.specs.Lending.{Event, put, turn, withdraw, callIn, saidIn, leftIn, Keeps, Kept, finally, said, called, LentAccount, LentDemand}
-use Rattle.fairness.proofs.Promises.{tray-account, tray-demand}
+use Rattle.tray.specs.declared.PutAnswer.the-variants as putting
+use Rattle.tray.specs.Ring.{emptyTray, Put, Reply}
+use Rattle.fairness.specs.Promises.{did, thenPut, since}
+use Rattle.fairness.specs.Lending.{Event, put, turn, withdraw, callIn, saidIn, leftIn, Keeps, Kept, finally, said, called, LentAccount, Went, LentBound, LentDemand}
+use Rattle.fairness.proofs.Promises.{tray-account, tray-bound, tray-demand}
 
 -- A call on a lent tray is that call on its record.
 pub lent-did : (t : Tray) (e : Event) → Keeps t e → does (saidIn e) (leftIn e) ≡ did t (callIn e)
@@ -29,10 +31,23 @@ finally-is (e ∷ es) t h = finally-is es (leftIn e) (h .1) ∙ ap (λ (d : Done
 pub lent-account : LentAccount
 lent-account es h = rw (said-are es emptyTray h, finally-is es emptyTray h) (tray-account (called es))
 
+-- After a put that was given a ticket, the calls are those since the same put by value.
+module _ {before : List Event} {p : Put} {k : ℕ} {after : List Event} (w : Went before p k after) where
+  put-is : does (ticketed k) (w .tray) ≡ thenPut (called before) p
+  put-is = lent-did (finally emptyTray before) (put p (putting.Ticket k) (w .tray)) (w .given) ∙ ap (λ (t : Tray). did t (rota.put p)) (finally-is before emptyTray (w .first))
+
+  given-is : thenPut (called before) p .answer ≡ ticketed k
+  given-is = ap (λ (d : Done Tray Reply). d .answer) (sym put-is)
+
+  since-are : said after ≡ since (called before) p (called after)
+  since-are = said-are after (w .tray) (w .since) ∙ ap (λ (d : Done Tray Reply). answers did (d .after) (called after)) put-is
+
+pub lent-bound : LentBound
+lent-bound before p k after w o n =
+    let e = since-are w in
+    rw e (tray-bound (called before) p (called after) k (given-is w) (rw e at o) (rw e at n))
+
 pub lent-demand : LentDemand
-lent-demand before p k t after f m bytes kept-before q kept-after hf hm w o n =
-    let l : finally emptyTray before ≡ left (called before) = finally-is before emptyTray kept-before in
-    let d : does (ticketed k) t ≡ thenPut (called before) p = lent-did (finally emptyTray before) (put p _ t) q ∙ ap (λ (s : Tray). did s (rota.put p)) l in
-    let e : said after ≡ since (called before) p (called after) = said-are after t kept-after ∙ ap (λ (x : Done Tray Reply). answers did (x .after) (called after)) d in
-    rw e
-    (tray-demand (called before) p (called after) k f m bytes hf hm (ap (λ (x : Done Tray Reply). x .answer) (sym d)) (rw e at w) (rw e at o) (rw e at n))
+lent-demand before p k after f m bytes hf hm w o h n =
+    let e = since-are w in
+    rw e (tray-demand (called before) p (called after) k f m bytes hf hm (given-is w) (rw e at o) (rw e at h) (rw e at n))

@@ -1,6 +1,6 @@
 -- What the tray promises over any calls on a fresh tray that is lent, each on what the last one left behind the reference.
 use Prim.Native.Nat.{ℕ, _+_, _*_, _/_, _≤_}
-use mathlib.Core.Bool.{false}
+use mathlib.Core.Bool.{true, false}
 use mathlib.Core.List.{List, [], _∷_, map}
 use mathlib.Core.Option.{some}
 use mathlib.Core.Path.{_≡_}
@@ -10,7 +10,7 @@ use Rattle.dimacs.specs.Names.{formatOf, modeOf, places}
 use Rattle.dimacs.specs.declared.Format.{Format}
 use Rattle.dimacs.specs.declared.Mode.{Mode}
 use Rattle.rota.specs.Rota as rota
-use Rattle.rota.specs.Rota.{Call, Answer, tickets, verdicts, withdrawals, isWithdrawn, turns, heard, toTheLast, AtOwnTurns}
+use Rattle.rota.specs.Rota.{Call, Answer, tickets, verdicts, withdrawals, isWithdrawn, turns, heard, toTheLast, concluded, AtOwnTurns}
 use Rattle.tray.specs.declared.Tray.{Tray}
 use Rattle.tray.specs.declared.PutAnswer.{PutAnswer}
 use Rattle.tray.specs.declared.PutAnswer.the-variants as putting
@@ -69,19 +69,31 @@ said es = map saidIn es
 abbrev pub called : List Event → Calls
 called es = map callIn es
 
--- The account.
+-- The account: tickets given equal verdicts answered plus withdrawals accepted plus jobs waiting.
 abbrev pub LentAccount : Type 0
 LentAccount =
     (es : List Event) → Kept emptyTray es
     → length (tickets (said es)) ≡ verdicts (said es) + withdrawals (said es) + length (waiting (finally emptyTray es))
 
--- What a job's ticket has heard after so many turns.
+-- Some calls, a put that was given a ticket, and the calls after it.
+pub record Went (before : List Event) (p : Put) (k : ℕ) (after : List Event) : Type 0 where
+  pub tray : Tray
+  pub first : Kept emptyTray before
+  pub given : Puts (finally emptyTray before) p tray (putting.Ticket k)
+  pub since : Kept tray after
+
+-- The bound: the verdict comes within so many turns, whatever they are lent.
+abbrev pub LentBound : Type 0
+LentBound =
+    (before : List Event) (p : Put) (k : ℕ) (after : List Event) → Went before p k after → isWithdrawn k (said after) ≡ false
+    → places * (2 + (p .length + 1) / 2) ≤ turns (said after) → concluded (heard k (said after)) ≡ true
+
+-- Both the bound and the content: after so many turns, the ticket has heard exactly what is said of its bytes read alone, the last as its verdict.
 abbrev pub LentDemand : Type 0
 LentDemand =
-    (before : List Event) (p : Put) (k : ℕ) (t : Tray) (after : List Event) (f : Format) (m : Mode) (bytes : List ℕ)
-    → Kept emptyTray before → Puts (finally emptyTray before) p t (putting.Ticket k) → Kept t after
+    (before : List Event) (p : Put) (k : ℕ) (after : List Event) (f : Format) (m : Mode) (bytes : List ℕ)
     → formatOf (p .format) ≡ some f → modeOf (p .mode) ≡ some m
-    → isWithdrawn k (said after) ≡ false
+    → Went before p k after → isWithdrawn k (said after) ≡ false
     → AtOwnTurns (Holds p bytes) k (called after) (said after)
     → places * (2 + (p .length + 1) / 2) ≤ turns (said after)
     → heard k (said after) ≡ toTheLast (saidAlone f m bytes)
