@@ -8,8 +8,8 @@ use Rattle.tray.specs.declared.Tray.{Tray}
 use Rattle.tray.specs.declared.PutAnswer.the-variants as putting
 use Rattle.tray.specs.Ring.{emptyTray, Put, Reply}
 use Rattle.fairness.specs.Promises.{did, thenPut, since}
-use Rattle.fairness.specs.Lending.{Event, put, turn, withdraw, callIn, saidIn, leftIn, Keeps, Kept, finally, said, called, LentAccount, Went, LentBound, LentDemand}
-use Rattle.fairness.proofs.Promises.{tray-account, tray-bound, tray-demand}
+use Rattle.fairness.specs.Lending.{Event, put, turn, withdraw, callIn, saidIn, leftIn, Keeps, Kept, finally, said, called, LentAccount, Went, LentBound, LentContent, LentDemand}
+use Rattle.fairness.proofs.Promises.{tray-account, tray-bound, tray-content}
 
 -- A call on a lent tray is that call on its record.
 pub lent-did : (t : Tray) (e : Event) → Keeps t e → does (saidIn e) (leftIn e) ≡ did t (callIn e)
@@ -47,7 +47,10 @@ lent-bound before p k after w o n =
     let e = since-are w in
     rw e (tray-bound (called before) p (called after) k (given-is w) (rw e at o) (rw e at n))
 
-pub lent-demand : LentDemand
-lent-demand before p k after f m bytes hf hm w o h n =
+pub lent-content : LentContent
+lent-content before p k after f m bytes hf hm w o h =
     let e = since-are w in
-    rw e (tray-demand (called before) p (called after) k f m bytes hf hm (given-is w) (rw e at o) (rw e at h) (rw e at n))
+    rw e (tray-content (called before) p (called after) k f m bytes hf hm (given-is w) (rw e at o) (rw e at h))
+
+pub lent-demand : LentDemand
+lent-demand before p k after f m bytes hf hm w o h n = lent-content before p k after f m bytes hf hm w o h .all (lent-bound before p k after w o n)

@@ -10,7 +10,7 @@ use Rattle.dimacs.specs.Names.{formatOf, modeOf, places}
 use Rattle.dimacs.specs.declared.Format.{Format}
 use Rattle.dimacs.specs.declared.Mode.{Mode}
 use Rattle.rota.specs.Rota as rota
-use Rattle.rota.specs.Rota.{Call, Answer, tickets, verdicts, withdrawals, isWithdrawn, turns, heard, toTheLast, concluded, AtOwnTurns}
+use Rattle.rota.specs.Rota.{Call, Answer, tickets, verdicts, withdrawals, isWithdrawn, turns, heard, toTheLast, concluded, AtOwnTurns, Hears}
 use Rattle.tray.specs.declared.Tray.{Tray}
 use Rattle.tray.specs.declared.PutAnswer.{PutAnswer}
 use Rattle.tray.specs.declared.PutAnswer.the-variants as putting
@@ -88,7 +88,16 @@ LentBound =
     (before : List Event) (p : Put) (k : ℕ) (after : List Event) → Went before p k after → isWithdrawn k (said after) ≡ false
     → places * (2 + (p .length + 1) / 2) ≤ turns (said after) → concluded (heard k (said after)) ≡ true
 
--- Both the bound and the content: after so many turns, the ticket has heard exactly what is said of its bytes read alone, the last as its verdict.
+-- The content: what the ticket hears is what is said of its bytes read alone, if they are in the area lent to each of its own turns.
+abbrev pub LentContent : Type 0
+LentContent =
+    (before : List Event) (p : Put) (k : ℕ) (after : List Event) (f : Format) (m : Mode) (bytes : List ℕ)
+    → formatOf (p .format) ≡ some f → modeOf (p .mode) ≡ some m
+    → Went before p k after → isWithdrawn k (said after) ≡ false
+    → AtOwnTurns (Holds p bytes) k (called after) (said after)
+    → Hears (saidAlone f m bytes) (heard k (said after))
+
+-- Both: after so many turns it has heard exactly that, the last as its verdict.
 abbrev pub LentDemand : Type 0
 LentDemand =
     (before : List Event) (p : Put) (k : ℕ) (after : List Event) (f : Format) (m : Mode) (bytes : List ℕ)
