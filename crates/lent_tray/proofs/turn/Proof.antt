@@ -7,7 +7,7 @@ use lib.ListN.{length}
 use denote.Slice.{shr-slice-copy}
 use denote.Struct.Laws as LL
 use denote.Enum.Laws as EL
-use Rattle.walks.proofs.Words.{URA, named, Val, vptr, SProp, id⊢, ftrue, flft, Memory, Routine, Heap, Calls, Loops, Atoms, FmC, Fun, givenOf, u8, i32, Is, owns, RefT, MutRef, sliceVal, ShrSlice, MutSlice, shr-slice-lawful, owned, nothing, Triple, cited, says, Given, ‵, _⊛_, _$_, _∵_, !, qed, move, drop, split, join, fsplit, fjoin, feqL, frame, done, agg, whole, sub, look-in, store-in, look, stop, hop, fld, from, addr, and-then, no-more, of-opd, returns, load, assigns, Params, shared, passedOn, lent, enters, leaves, whole-of, field-of, puts, lands-in, Callee, calls-by, borrowed, given-back, Walk, ends, proved, use1}
+use Rattle.walks.proofs.Words.{URA, named, Val, vptr, SProp, id⊢, ftrue, flft, Memory, Routine, Heap, Calls, Loops, Atoms, FmC, Fun, givenOf, u8, i32, Is, owns, RefT, MutRef, sliceVal, ShrSlice, MutSlice, shr-slice-lawful, owned, Triple, cited, says, Given, ‵, _⊛_, _$_, _∵_, !, qed, move, drop, split, join, fsplit, fjoin, feqL, frame, done, agg, whole, sub, look-in, store-in, look, stop, hop, fld, from, addr, and-then, no-more, of-opd, returns, load, assigns, Params, shared, passedOn, lent, enters, leaves, whole-of, field-of, puts, lands-in, Callee, calls-by, borrowed, given-back, Walk, ends, proved, use1}
 use Rattle.walks.proofs.Pairs.{first-of, second-of}
 use Rattle.tray.specs.Ring.{Turns}
 use Rattle.tray.specs.declared.Tray.{Tray}
