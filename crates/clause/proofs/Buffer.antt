@@ -1,44 +1,105 @@
--- The loop over literals: those read so far stand at the front of the buffer, and what is read from here on is what is read from the start. Assumes nothing.
-use Prim.Native.Nat.{ℕ, _+_, _≤_, _<_}
-use mathlib.Core.Bool.{Bool, false}
+-- The loop over the rows of a clause: the literals read so far stand at the front of the buffer, and what is read from here on is what is read from
+-- the start. Assumes nothing.
+use Prim.Native.Nat.{ℕ, _-_, _≤_, _<_}
 use mathlib.Core.List.{List, [], _∷_, _++_}
-use mathlib.Core.Path.{_≡_, refl, _∙_}
-use native.Mathlib.Numerals.{add-one}
+use mathlib.Core.Path.{_≡_, refl, ap, sym, _∙_, subst}
 use native.Mathlib.Omega.{arith}
-use lib.ListN.{length, take, set}
-use lib.Seq.{take-suc-set}
+use lib.ListN.{length, take, drop}
 use lib.IntN.{ℤ}
-use Rattle.dimacs.specs.Clauses.{Literals, closed, stopped, reads, literalsFrom, literals}
+use Rattle.dimacs.specs.Names.{Reason, refusal}
+use Rattle.dimacs.specs.Tokens.{linebreaks}
+use Rattle.dimacs.specs.Rows as def
+use Rattle.dimacs.specs.Rows.{reads, row, readBy}
+use Rattle.dimacs.specs.Clauses.{laid, nothing, closed, stopped, literalsFrom, literals}
 use Rattle.dimacs.specs.declared.Refusal.{Refusal}
-use Rattle.dimacs.proofs.Buffer as buffer
-use Rattle.dimacs.proofs.Buffer.{Kept, unchanged, counted, in-place}
-use Rattle.clause.specs.Answers.{literalsOf, readOf, Reads}
-use Rattle.clause.specs.declared.Literals.the-variants.{Closed, Stopped}
+use Rattle.dimacs.proofs.Spans.{Spans, linebreaks-spans}
+use Rattle.dimacs.proofs.Rows.{RowSpans, row-spans, Grown, row-grows}
+use Rattle.dimacs.proofs.Literals.{closed-by, stopped-by, nothing-there, none-after-lines, none-on-line, breaks}
+use Rattle.dimacs.proofs.Buffer.{Kept, unchanged, counted, beyond, adds, front}
+use Rattle.rows.specs.Answers as rows
+use Rattle.rows.specs.Answers.{rowOf}
+use Rattle.rows.specs.declared.Row.{Row}
+use Rattle.rows.specs.declared.Row.the-variants.{Ends, Closes, Stops}
+use Rattle.clause.specs.Answers.{Reads}
+use Rattle.clause.specs.declared.Literals.the-variants.{Nothing, Closed, Stopped}
 
-pub record Held (s : List ℕ) (limit at : ℕ) (old lits : List ℤ) (place count : ℕ) (fresh : Bool) : Type 0 where
-  pub kept : Kept old lits count
-  pub so-far : literals s limit (length old) at ≡ literalsFrom s limit (length old) (reads place fresh (take count lits))
+pub record Held (s : List ℕ) (limit at : ℕ) (old lits : List ℤ) (from held : ℕ) : Type 0 where
+  pub kept : Kept old lits held
+  pub so-far : literals s limit (length old) at ≡ literalsFrom s limit (length old) (reads from (take held lits))
 
-pub starts : (s : List ℕ) (limit at : ℕ) (old : List ℤ) → Held s limit at old old at 0 false
+pub starts : (s : List ℕ) (limit at : ℕ) (old : List ℤ) → Held s limit at old old at 0
 unfolding literals
 starts s limit at old = record { kept = unchanged (omega arith); so-far = refl }
 
-module _ {s : List ℕ} {limit at : ℕ} {old lits : List ℤ} {place count : ℕ} {fresh : Bool} (h : Held s limit at old lits place count fresh) where
-  pub closed-at : {n : ℕ} → literalsFrom s limit (length old) (reads place fresh (take count lits)) ≡ closed (take count lits) n
-      → Reads s limit at old lits (Closed count n)
-  closed-at e = record { answer = rw (h .so-far ∙ e, counted (h .kept)); buffer = rw (h .so-far ∙ e) (in-place (h .kept)) }
+module _ {s : List ℕ} {limit at : ℕ} {old lits : List ℤ} {from held : ℕ} (h : Held s limit at old lits from held) where
+  the-row : def.Row
+  the-row = row s limit (length old) (reads from (take held lits))
 
-  pub stopped-at : {x : Refusal} (r : Refusal) → r ≡ x → literalsFrom s limit (length old) (reads place fresh (take count lits)) ≡ stopped x (take count lits)
-      → Reads s limit at old lits (Stopped r count)
-  stopped-at r is e = record { answer = rw (h .so-far ∙ e, counted (h .kept), is); buffer = rw (h .so-far ∙ e) (in-place (h .kept)) }
+  -- A row adds literals to those before it, as many as the buffer can hold.
+  grown : (d : def.Row) → the-row ≡ d → (held ≤ length (readBy d)) × (length (readBy d) ≤ length lits)
+  unfolding the-row
+  grown d e =
+      let g = subst (λ x. Grown (length old) (take held lits) (readBy x)) e (row-grows s limit (length old) (reads from (take held lits))) in
+      let k = h .kept .fits in
+      omega (arith, counted (h .kept), h .kept .same)
 
-  -- On to another place with the same literals.
-  pub moves-to : (q : ℕ) (f : Bool) → literalsFrom s limit (length old) (reads place fresh (take count lits)) ≡ literalsFrom s limit (length old) (reads q f (take count lits))
-      → Held s limit at old lits q count f
-  moves-to q f e = record { kept = h .kept; so-far = h .so-far ∙ e }
+  -- The buffer after a row is that after all literals from the start.
+  over : {new : List ℤ} (d : def.Row) → the-row ≡ d → new ≡ laid (readBy d) lits → new ≡ laid (readBy d) old
+  over d e b = b ∙ ap (λ l. readBy d ++ l) (beyond (h .kept) (length (readBy d)) (grown d e .0))
 
-  -- One literal more.
-  pub puts : (v : ℤ) (q : ℕ) → count < length lits
-      → literalsFrom s limit (length old) (reads place fresh (take count lits)) ≡ literalsFrom s limit (length old) (reads q false (take count lits ++ (v ∷ [])))
-      → Held s limit at old (set lits count v) q (count + 1) false
-  puts v q k e = record { kept = buffer.puts (h .kept) v k; so-far = h .so-far ∙ e ∙ rw (add-one, take-suc-set lits count v k) }
+  -- A row that was read, as the definition has it.
+  by-row : {new : List ℤ} {r : Row} (P : Row → Type 0) → rows.Reads (row s limit (length lits) (reads from (take held lits))) lits new r
+      → ((d : def.Row) → the-row ≡ d → new ≡ laid (readBy d) lits → P (rowOf d)) → P r
+  unfolding the-row
+  by-row P g k =
+      let e = h .kept .same in
+      let b = rw e at (g .buffer) in
+      let a = rw e at (g .row) in
+      subst P (sym a) (k the-row refl b)
+
+  -- What a row that ended without its 0 leads to: no literals at all, refusal 7 or 6, or on past the line ends.
+  pub record Ended (new : List ℤ) (place count : ℕ) : Type 0 where
+    pub none : count ≡ 0 → Reads s limit at old new Nothing
+    pub after-lines : (count ≡ 0 → ⊥) → count ≡ held → (x : Refusal) → x ≡ refusal s Reason.literalExpectedAfterLines place → Reads s limit at old new (Stopped x count)
+    pub on-line : (count ≡ 0 → ⊥) → (count ≡ held → ⊥) → (q : ℕ) → q ≡ linebreaks s place → q ≡ place → (x : Refusal) → x ≡ refusal s Reason.literalExpected place
+        → Reads s limit at old new (Stopped x count)
+    pub on : (count ≡ 0 → ⊥) → (count ≡ held → ⊥) → (q : ℕ) → q ≡ linebreaks s place → (q ≡ place → ⊥)
+        → Held s limit at old new q count × (length s - q < length s - from)
+
+  abbrev Leads : List ℤ → Row → Type 0
+  Leads new (Ends place count) = Ended new place count
+  Leads new (Closes place count) = Reads s limit at old new (Closed count place)
+  Leads new (Stops x count) = Reads s limit at old new (Stopped x count)
+
+  pub leads : {new : List ℤ} {r m : Row} → rows.Reads (row s limit (length lits) (reads from (take held lits))) lits new r
+      → r ≡ m → Leads new m
+  unfolding the-row
+  leads {new} g e = subst (Leads new) e (by-row (Leads new) g go)
+    where
+      here : def.Reading
+      here = reads from (take held lits)
+
+      n : length (take held lits) ≡ held
+      n = counted (h .kept)
+
+      empty : (so : List ℤ) → length so ≡ 0 → so ≡ []
+      empty [] e = refl
+      empty (x ∷ so) e = absurd (omega arith)
+
+      go : (d : def.Row) → the-row ≡ d → new ≡ laid (readBy d) lits → Leads new (rowOf d)
+      go (def.closes p so) e b = let f = h .so-far ∙ closed-by s limit (length old) here e in record { answer = rw f; buffer = rw f (over (def.closes p so) e b) }
+      go (def.stops x so) e b = let f = h .so-far ∙ stopped-by s limit (length old) here e in record { answer = rw f; buffer = rw f (over (def.stops x so) e b) }
+      go (def.ends p so) e b =
+          record {
+            none = λ z. let f = h .so-far ∙ nothing-there s limit (length old) here e z in
+                record { answer = rw f; buffer = rw f (rw (empty so z) at (over (def.ends p so) e b)) };
+            after-lines = λ z k x is. let f = h .so-far ∙ none-after-lines s limit (length old) here e z (k ∙ sym n) in
+                record { answer = rw (f, is); buffer = rw f (over (def.ends p so) e b) };
+            on-line = λ z k q is l x y. let f = h .so-far ∙ none-on-line s limit (length old) here e z (λ j. k (j ∙ n)) q is l in
+                record { answer = rw (f, y); buffer = rw f (over (def.ends p so) e b) };
+            on = λ z k q is l. let w = grown (def.ends p so) e in
+                let f = h .so-far ∙ breaks s limit (length old) here e z (λ j. k (j ∙ n)) q is l in
+                let m = subst (RowSpans s from) e (row-spans s limit (length old) here) in
+                let j = linebreaks-spans s p in
+                (rw b (record { kept = adds (h .kept) so (w .0) (w .1); so-far = rw (front so lits) f }), omega arith);
+          }

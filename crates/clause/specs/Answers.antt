@@ -7,18 +7,20 @@ use lib.IntN.{ℤ}
 use Rattle.dimacs.specs.Names.{numbered}
 use Rattle.dimacs.specs.Clauses as def
 use Rattle.clause.specs.declared.Literals.{Literals}
-use Rattle.clause.specs.declared.Literals.the-variants.{Closed, Stopped}
+use Rattle.clause.specs.declared.Literals.the-variants.{Nothing, Closed, Stopped}
 use Rattle.clause.specs.declared.Next.{Next}
 use Rattle.clause.specs.declared.Next.the-variants as next
 use Rattle.clause.specs.declared.Answered.{Answered}
 
 -- Literals are told by their count.
 abbrev pub literalsOf : def.Literals → Literals
+literalsOf def.nothing = Nothing
 literalsOf (def.closed so at) = Closed (length so) at
 literalsOf (def.stopped r so) = Stopped r (length so)
 
 -- The literals that were read.
 abbrev pub readOf : def.Literals → List ℤ
+readOf def.nothing = []
 readOf (def.closed so at) = so
 readOf (def.stopped r so) = so
 
@@ -46,6 +48,11 @@ answeredOf d = record { answer = nextOf (d .answer); place = d .place }
 -- A refusal by its number, with so many literals before it.
 abbrev pub refusedOf : List ℕ → ℕ → ℕ → ℕ → Answered
 refusedOf s number at count = record { answer = next.Refused (numbered s number at) count; place = at }
+
+-- An answer of the definition by which no literal is read, and the code's answer for it.
+pub record Unread (d : def.Answered) (r : Answered) : Type 0 where
+  pub answer : r ≡ answeredOf d
+  pub none : leftBy (d .answer) ≡ []
 
 -- An answer of the definition is given: the answer, and the buffer after it.
 pub record Answers (d : def.Answered) (old new : List ℤ) (r : Answered) : Type 0 where

@@ -1,28 +1,28 @@
 // A clause of each format, read into a lent buffer of literals.
 ghost use mathlib.Core.Path.{_≡_};
 ghost use lib.ListN.{length};
+ghost use Rattle.dimacs.specs.Clauses as def;
 ghost use Rattle.dimacs.specs.Clauses.{noClause, body, owed, plainAt, weightedAt, groupedAt, clauseAt};
-ghost use Rattle.clause.specs.Answers.{answeredOf, refusedOf, Reads, Answers};
-use dimacs::BUFFER_FULL;
+ghost use Rattle.clause.specs.Answers.{answeredOf, refusedOf, Unread, Reads, Answers};
 use dimacs::CLAUSE_EXPECTED;
 use dimacs::EndOfLine;
 use dimacs::Format;
 use dimacs::GROUP_TOO_BIG;
-use dimacs::Int;
 use dimacs::LARGEST;
 use dimacs::LINE_END_EXPECTED;
 use dimacs::LITERAL_EXPECTED;
 use dimacs::LITERAL_EXPECTED_AFTER_LINES;
-use dimacs::LITERAL_TOO_BIG;
 use dimacs::LITERALS_EXPECTED;
 use dimacs::Limits;
 use dimacs::Refusal;
 use dimacs::Uint;
 use dimacs::WEIGHT_TOO_BIG;
 use dimacs::refuse;
+use rows::Row;
 
-// What a list of literals comes to: how many there are and the place past the 0, or a refusal and how many stand before it.
+// What a list of literals comes to: no number stands at its place; or how many there are and the place past the 0; or a refusal and how many stand before it.
 pub enum Literals {
+    Nothing,
     Closed { count: usize, next: usize },
     Stopped { refusal: Refusal, count: usize },
 }
@@ -43,17 +43,19 @@ pub struct Answered {
     pub place: usize,
 }
 
-// The literals from a place at which a number stands, up to the 0.
+// The literals from a place on, up to the 0.
 fn clause_lits(text: &[u8], at: usize, limit: u32, lits: &mut [i32]) -> Literals
     ensures { λ r. ⌜ Reads (now (text .entry)) limit at (now (lits .entry)) (now (lits .exit)) r ⌝ }
 {
-    let mut place = at;
-    let mut count: usize = 0;
-    let mut fresh = false;
+    let mut from = at;
+    let mut held: usize = 0;
     loop {
-        match token::int(text, place, limit) {
-            Int::Missing => {
-                if fresh {
+        match rows::ints(text, from, limit, held, lits) {
+            Row::Ends { place, count } => {
+                if count == 0 {
+                    return Literals::Nothing;
+                }
+                if count == held {
                     return Literals::Stopped {
                         refusal: refuse(text, LITERAL_EXPECTED_AFTER_LINES, place),
                         count,
@@ -66,29 +68,14 @@ fn clause_lits(text: &[u8], at: usize, limit: u32, lits: &mut [i32]) -> Literals
                         count,
                     };
                 }
-                place = past;
-                fresh = true;
+                from = past;
+                held = count;
             }
-            Int::Zero(next) => {
-                return Literals::Closed { count, next };
+            Row::Closes { place, count } => {
+                return Literals::Closed { count, next: place };
             }
-            Int::TooBig => {
-                return Literals::Stopped {
-                    refusal: refuse(text, LITERAL_TOO_BIG, place),
-                    count,
-                };
-            }
-            Int::Literal(v, next) => {
-                if lits.len() <= count {
-                    return Literals::Stopped {
-                        refusal: refuse(text, BUFFER_FULL, place),
-                        count,
-                    };
-                }
-                lits[count] = v;
-                count += 1;
-                place = next;
-                fresh = false;
+            Row::Stops { refusal, count } => {
+                return Literals::Stopped { refusal, count };
             }
         }
     }
@@ -107,11 +94,19 @@ fn refused(text: &[u8], number: u8, place: usize, count: usize) -> Answered
     }
 }
 
-// The literals of a clause with its 0, and what closes its line.
-fn clause_body(text: &[u8], at: usize, limits: Limits, extra: u64, lits: &mut [i32]) -> Answered
-    ensures { λ r. ⌜ Answers (body (now (text .entry)) limits (length (now (lits .entry))) extra at) (now (lits .entry)) (now (lits .exit)) r ⌝ }
+// The literals of a clause with its 0, and what closes its line; or another answer, by which nothing is read, where no number stands.
+fn clause_body(
+    text: &[u8],
+    at: usize,
+    limits: Limits,
+    extra: u64,
+    otherwise: Answered,
+    lits: &mut [i32],
+) -> Answered
+    ensures { λ r. ⌜ ((d : def.Answered) → Unread d otherwise → Answers (body (now (text .entry)) limits (length (now (lits .entry))) extra d at) (now (lits .entry)) (now (lits .exit)) r) ⌝ }
 {
     match clause_lits(text, at, limits.literals, lits) {
+        Literals::Nothing => otherwise,
         Literals::Closed { count, next } => match token::interactive_end_of_line(text, next) {
             EndOfLine::Missing => refused(text, LINE_END_EXPECTED, next, count),
             EndOfLine::Past(place) => Answered {
@@ -144,19 +139,15 @@ fn clause_owed(text: &[u8], at: usize, limits: Limits, extra: u64, lits: &mut [i
     ensures { λ r. ⌜ Answers (owed (now (text .entry)) limits (length (now (lits .entry))) extra at) (now (lits .entry)) (now (lits .exit)) r ⌝ }
 {
     let place = token::non_terminating_linebreaks(text, at);
-    match token::int(text, place, limits.literals) {
-        Int::Missing => refused(text, LITERALS_EXPECTED, place, 0),
-        _ => clause_body(text, place, limits, extra, lits),
-    }
+    let otherwise = refused(text, LITERALS_EXPECTED, place, 0);
+    clause_body(text, place, limits, extra, otherwise, lits)
 }
 
 fn plain_at(text: &[u8], at: usize, limits: Limits, permitted: bool, lits: &mut [i32]) -> Answered
     ensures { λ r. ⌜ Answers (plainAt (now (text .entry)) limits (length (now (lits .entry))) permitted at) (now (lits .entry)) (now (lits .exit)) r ⌝ }
 {
-    match token::int(text, at, limits.literals) {
-        Int::Missing => no_clause(text, at, permitted),
-        _ => clause_body(text, at, limits, 0, lits),
-    }
+    let otherwise = no_clause(text, at, permitted);
+    clause_body(text, at, limits, 0, otherwise, lits)
 }
 
 fn weighted_at(

@@ -10,101 +10,95 @@ use lib.ListN.{length, length-append}
 use lib.IntN.{ℤ}
 use Rattle.dimacs.specs.Loop.{Step, again, answer}
 use Rattle.dimacs.specs.Names.{Reason, numbered, refusal, largest}
-use Rattle.dimacs.specs.Tokens.{unmoved, atEnd, linebreaks, intAt, uintAt, bracedUintAt, endOfLine, lineEnds, numberStands}
-use Rattle.dimacs.specs.Clauses.{Literals, closed, stopped, Reading, reads, onMissing, onInt, nextLiteral, literalsFrom, literals, Answer, clause, ended, refused, Answered, says, refuses, clauseOf, noClause, body, owed, marked, plainAt, weightedAt, groupedAt, clauseAt}
+use Rattle.dimacs.specs.Tokens.{unmoved, atEnd, linebreaks, uintAt, bracedUintAt, endOfLine, lineEnds}
+use Rattle.dimacs.specs.Rows.{Row, ends, closes, stops, readBy, Reading, reads, row}
+use Rattle.dimacs.specs.Clauses.{Literals, nothing, closed, stopped, onRow, nextRow, literalsFrom, literals, Answer, clause, ended, refused, Answered, says, refuses, clauseOf, noClause, body, owed, marked, plainAt, weightedAt, groupedAt, clauseAt}
 use Rattle.dimacs.specs.declared.Format.{Format}
 use Rattle.dimacs.specs.declared.Limits.{Limits}
 use Rattle.dimacs.specs.declared.Format.the-variants.{Plain, Weighted, Grouped}
 use Rattle.dimacs.specs.declared.Refusal.{Refusal}
 use Rattle.dimacs.specs.declared.Uint.{Uint}
 use Rattle.dimacs.specs.declared.Uint.the-variants as uint
-use Rattle.dimacs.specs.declared.Int.{Int}
-use Rattle.dimacs.specs.declared.Int.the-variants as int
 use Rattle.dimacs.specs.declared.EndOfLine.{EndOfLine}
 use Rattle.dimacs.specs.declared.EndOfLine.the-variants as end
 use Rattle.dimacs.proofs.Loops.{Leads, Falls, after, unrolled, kept}
 use Rattle.dimacs.proofs.Tests.{chosen, both-right}
-use Rattle.dimacs.proofs.Spans.{Spans, then-spans, Moves, then-moves, moves-then, Closes, EndCloses, end-closes, linebreaks-spans, UintMoves, uint-moves, braced-uint-moves, IntMoves, int-moves}
-
--- What is left to a reader of literals: twice the bytes, and one more while line ends may still come.
-abbrev pub left : List ℕ → Reading → ℕ
-left s r = (length s - r .at) * 2 + cond (r .fresh) 0 1
+use Rattle.dimacs.proofs.Spans.{Spans, then-spans, Moves, moves, then-moves, moves-then, Closes, EndCloses, end-closes, linebreaks-spans, UintMoves, uint-moves, braced-uint-moves}
+use Rattle.dimacs.proofs.Rows.{RowSpans, row-spans, Grown, row-grows, left}
 
 -- The literals close past a byte of their own, or are refused at a place within reach.
 abbrev pub LiteralsSpan : List ℕ → ℕ → Literals → Type 0
+LiteralsSpan s at nothing = Unit {0}
 LiteralsSpan s at (closed so e) = Moves s at e
 LiteralsSpan s at (stopped r so) = Spans s at (r .place)
 
-module _ (s : List ℕ) (limit room : ℕ) where
-  literals-falls : (r : Reading) → Falls (left s) r (nextLiteral s limit room r)
-  unfolding nextLiteral
-  literals-falls r = go (intAt s limit (r .at)) (int-moves s limit (r .at)) (r .fresh)
-    where
-      go : (i : Int) → IntMoves s (r .at) i → (f : Bool) → Falls (left s) (reads (r .at) f (r .so)) (onInt s limit room i (reads (r .at) f (r .so)))
-      go int.Missing m true = tt
-      go int.Missing m false =
-          chosen (Falls (left s) (reads (r .at) false (r .so))) (unmoved (r .at) (linebreaks s (r .at))) (λ _. tt)
-          (λ _. omega (arith, linebreaks-spans s (r .at)))
-      go (int.Zero n) m f = tt
-      go (int.Literal v n) m f = chosen (Falls (left s) (reads (r .at) f (r .so))) (leb room (length (r .so))) (λ _. tt) (λ _. omega arith)
-      go int.TooBig m f = tt
-
-  -- One number or one break of lines, and then the rest.
-  pub literals-step : (r : Reading) → literalsFrom s limit room r ≡ after (nextLiteral s limit room r) (literalsFrom s limit room)
-  unfolding literalsFrom
-  literals-step r =
-      unrolled (nextLiteral s limit room) (stopped (refusal s Reason.literalExpected 0) []) (left s) literals-falls (length s + length s + 2) r (enough (r .fresh))
-    where
-      enough : (f : Bool) → (length s - r .at) * 2 + cond f 0 1 < length s + length s + 2
-      enough true = omega arith
-      enough false = omega arith
-
-  literals-keep : (at : ℕ) (r : Reading) → Spans s at (r .at) → Leads (λ x. Spans s at (x .at)) (LiteralsSpan s at) (nextLiteral s limit room r)
-  unfolding nextLiteral numbered
-  literals-keep at r h = go (intAt s limit (r .at)) (int-moves s limit (r .at)) (r .fresh)
-    where
-      On : Step Reading Literals → Type 0
-      On = Leads (λ x. Spans s at (x .at)) (LiteralsSpan s at)
-
-      go : (i : Int) → IntMoves s (r .at) i → (f : Bool) → On (onInt s limit room i (reads (r .at) f (r .so)))
-      go int.Missing m true = h
-      go int.Missing m false = chosen On (unmoved (r .at) (linebreaks s (r .at))) (λ _. h) (λ _. then-spans h (linebreaks-spans s (r .at)))
-      go (int.Zero n) m f = moves-then h m
-      go (int.Literal v n) m f = chosen On (leb room (length (r .so))) (λ _. h) (λ _. omega arith)
-      go int.TooBig m f = h
-
-  pub literals-span : (at : ℕ) → LiteralsSpan s at (literals s limit room at)
-  unfolding literals literalsFrom
-  literals-span at =
-      kept (nextLiteral s limit room) (stopped (refusal s Reason.literalExpected 0) []) (left s) literals-falls (λ x. Spans s at (x .at))
-      (LiteralsSpan s at) (literals-keep at) (length s + length s + 2) (reads at false []) (omega arith) (omega arith)
-
 -- No more literals are read than there is room for.
 abbrev pub LiteralsFit : ℕ → Literals → Type 0
+LiteralsFit room nothing = Unit {0}
 LiteralsFit room (closed so e) = length so ≤ room
 LiteralsFit room (stopped r so) = length so ≤ room
 
 module _ (s : List ℕ) (limit room : ℕ) where
-  fit-keep : (r : Reading) → length (r .so) ≤ room → Leads (λ x. length (x .so) ≤ room) (LiteralsFit room) (nextLiteral s limit room r)
-  unfolding nextLiteral
-  fit-keep r h = go (intAt s limit (r .at)) (r .fresh)
+  -- What holds of every way on that a row opens.
+  by-row : (P : Step Reading Literals → Type 0) (held at : ℕ) (so : List ℤ) → P (answer nothing) → P (answer (stopped (refusal s Reason.literalExpectedAfterLines at) so))
+      → P (answer (stopped (refusal s Reason.literalExpected at) so)) → (Moves s at (linebreaks s at) → P (again (reads (linebreaks s at) so)))
+      → P (onRow s limit room held (ends at so))
+  by-row P held at so n a b c =
+      chosen P (eqb (length so) 0) (λ _. n)
+      (λ _. chosen P (eqb (length so) held) (λ _. a)
+      (λ _. chosen P (unmoved at (linebreaks s at)) (λ _. b) (λ k. c (moves (linebreaks-spans s at) k))))
+
+  literals-falls : (r : Reading) → Falls (left s) r (nextRow s limit room r)
+  unfolding nextRow
+  literals-falls r = go (row s limit room r) (row-spans s limit room r)
+    where
+      go : (w : Row) → RowSpans s (r .at) w → Falls (left s) r (onRow s limit room (length (r .so)) w)
+      go (closes n so) h = tt
+      go (stops x so) h = tt
+      go (ends at so) h = by-row (Falls (left s) r) (length (r .so)) at so tt tt tt (λ m. omega arith)
+
+  -- One row with the line ends after it, and then the rest.
+  pub literals-step : (r : Reading) → literalsFrom s limit room r ≡ after (nextRow s limit room r) (literalsFrom s limit room)
+  unfolding literalsFrom
+  literals-step r = unrolled (nextRow s limit room) nothing (left s) literals-falls (suc (length s)) r (omega arith)
+
+  literals-keep : (at : ℕ) (r : Reading) → Spans s at (r .at) → Leads (λ x. Spans s at (x .at)) (LiteralsSpan s at) (nextRow s limit room r)
+  unfolding nextRow numbered
+  literals-keep at r h = go (row s limit room r) (row-spans s limit room r)
+    where
+      On : Step Reading Literals → Type 0
+      On = Leads (λ x. Spans s at (x .at)) (LiteralsSpan s at)
+
+      go : (w : Row) → RowSpans s (r .at) w → On (onRow s limit room (length (r .so)) w)
+      go (closes n so) m = moves-then h m
+      go (stops x so) m = then-spans h m
+      go (ends e so) m =
+          let k = then-spans h m in
+          by-row On (length (r .so)) e so tt k k (λ _. then-spans k (linebreaks-spans s e))
+
+  pub literals-span : (at : ℕ) → LiteralsSpan s at (literals s limit room at)
+  unfolding literals literalsFrom
+  literals-span at =
+      kept (nextRow s limit room) nothing (left s) literals-falls (λ x. Spans s at (x .at)) (LiteralsSpan s at) (literals-keep at) (suc (length s))
+      (reads at []) (omega arith) (omega arith)
+
+  fit-keep : (r : Reading) → length (r .so) ≤ room → Leads (λ x. length (x .so) ≤ room) (LiteralsFit room) (nextRow s limit room r)
+  unfolding nextRow
+  fit-keep r h = go (row s limit room r) (row-grows s limit room r)
     where
       On : Step Reading Literals → Type 0
       On = Leads (λ x. length (x .so) ≤ room) (LiteralsFit room)
 
-      go : (i : Int) (f : Bool) → On (onInt s limit room i (reads (r .at) f (r .so)))
-      go int.Missing true = h
-      go int.Missing false = chosen On (unmoved (r .at) (linebreaks s (r .at))) (λ _. h) (λ _. h)
-      go (int.Zero n) f = h
-      go (int.Literal v n) f =
-          chosen On (leb room (length (r .so))) (λ _. h) (λ e. omega (arith, leb-false room (length (r .so)) e, length-append (r .so) (v ∷ [])))
-      go int.TooBig f = h
+      go : (w : Row) → Grown room (r .so) (readBy w) → On (onRow s limit room (length (r .so)) w)
+      go (closes n so) g = omega arith
+      go (stops x so) g = omega arith
+      go (ends e so) g = let k : length so ≤ room = omega arith in by-row On (length (r .so)) e so tt k k (λ _. k)
 
   pub literals-fit : (at : ℕ) → LiteralsFit room (literals s limit room at)
   unfolding literals literalsFrom
   literals-fit at =
-      kept (nextLiteral s limit room) (stopped (refusal s Reason.literalExpected 0) []) (left s) (literals-falls s limit room) (λ x. length (x .so) ≤ room)
-      (LiteralsFit room) fit-keep (length s + length s + 2) (reads at false []) (omega arith) (omega arith)
+      kept (nextRow s limit room) nothing (left s) literals-falls (λ x. length (x .so) ≤ room) (LiteralsFit room) fit-keep (suc (length s))
+      (reads at []) (omega arith) (omega arith)
 
 -- How many clauses may still come.
 abbrev pub toCome : List ℕ → ℕ → ℕ
@@ -144,13 +138,14 @@ module _ (s : List ℕ) where
   unfolding numbered
   refuses-onward why at so = omega arith
 
-  clause-of-onward : (extra at : ℕ) (l : Literals) → LiteralsSpan s at l → Onward s at (clauseOf s extra l)
-  clause-of-onward extra at (closed so e) m = go (endOfLine s e) (end-closes s e)
+  clause-of-onward : (extra at : ℕ) (d : Answered) → Onward s at d → (l : Literals) → LiteralsSpan s at l → Onward s at (clauseOf s extra d l)
+  clause-of-onward extra at d k nothing m = k
+  clause-of-onward extra at d k (closed so e) m = go (endOfLine s e) (end-closes s e)
     where
       go : (x : EndOfLine) → EndCloses s e x → Onward s at (lineEnds x (says (clause extra so)) (refuses s Reason.lineEndExpected e so))
       go end.Missing c = back (omega arith) (refuses s Reason.lineEndExpected e so) (refuses-onward Reason.lineEndExpected e so)
       go (end.Past n) c = omega arith
-  clause-of-onward extra at (stopped r so) m = omega arith
+  clause-of-onward extra at d k (stopped r so) m = omega arith
 
   pub no-clause-onward : (endPermitted : Bool) (at : ℕ) → Onward s at (noClause s endPermitted at)
   unfolding noClause
@@ -159,24 +154,17 @@ module _ (s : List ℕ) where
       (λ e. let l = leb-true (length s) at (both-right endPermitted (atEnd s at) e) in omega arith)
       (λ _. refuses-onward Reason.clauseExpected at [])
 
-number-stands : {A : Type 0} (P : A → Type 0) (i : Int) {a b : A} → P a → P b → P (numberStands i a b)
-number-stands P int.Missing h k = k
-number-stands P (int.Zero n) h k = h
-number-stands P (int.Literal v n) h k = h
-number-stands P int.TooBig h k = h
-
 module _ (s : List ℕ) (limits : Limits) (room : ℕ) where
-  body-onward : (extra at : ℕ) → Onward s at (body s limits room extra at)
+  body-onward : (extra at : ℕ) (d : Answered) → Onward s at d → Onward s at (body s limits room extra d at)
   unfolding body
-  body-onward extra at = clause-of-onward s extra at (literals s (limits .literals) room at) (literals-span s (limits .literals) room at)
+  body-onward extra at d k = clause-of-onward s extra at d k (literals s (limits .literals) room at) (literals-span s (limits .literals) room at)
 
   owed-onward : (extra at : ℕ) → Onward s at (owed s limits room extra at)
   unfolding owed
   owed-onward extra at =
       let e = linebreaks s at in
-      number-stands (Onward s at) (intAt s (limits .literals) e)
-      (back (linebreaks-spans s at) (body s limits room extra e) (body-onward extra e))
-      (back (linebreaks-spans s at) (refuses s Reason.literalsExpected e []) (refuses-onward s Reason.literalsExpected e []))
+      let d = refuses s Reason.literalsExpected e [] in
+      back (linebreaks-spans s at) (body s limits room extra d e) (body-onward extra e d (refuses-onward s Reason.literalsExpected e []))
 
   marked-onward : (big : Reason) (endPermitted : Bool) (at : ℕ) (u : Uint) → UintMoves s at u → Onward s at (marked s limits room big endPermitted at u)
   marked-onward big endPermitted at uint.Missing m = no-clause-onward s endPermitted at
@@ -186,8 +174,7 @@ module _ (s : List ℕ) (limits : Limits) (room : ℕ) where
   -- A clause ends within the text and leaves fewer to come; the end is at the text's end; a refusal's place is within reach.
   pub clause-at-onward : (f : Format) (endPermitted : Bool) (at : ℕ) → Onward s at (clauseAt s limits room f endPermitted at)
   unfolding clauseAt plainAt weightedAt groupedAt
-  clause-at-onward Plain endPermitted at =
-      number-stands (Onward s at) (intAt s (limits .literals) at) (body-onward 0 at) (no-clause-onward s endPermitted at)
+  clause-at-onward Plain endPermitted at = body-onward 0 at (noClause s endPermitted at) (no-clause-onward s endPermitted at)
   clause-at-onward Weighted endPermitted at = marked-onward Reason.weightTooBig endPermitted at (uintAt s largest at) (uint-moves s largest at)
   clause-at-onward Grouped endPermitted at =
       marked-onward Reason.groupTooBig endPermitted at (bracedUintAt s (limits .groups) at) (braced-uint-moves s (limits .groups) at)
@@ -210,15 +197,16 @@ module _ (s : List ℕ) (limits : Limits) (room : ℕ) where
   no-clause-fits endPermitted at =
       chosen (Fits room) (endPermitted && atEnd s at) (λ _. tt) (λ _. refuses-fits Reason.clauseExpected at)
 
-  body-fits : (extra at : ℕ) → Fits room (body s limits room extra at)
+  body-fits : (extra at : ℕ) (d : Answered) → Fits room d → Fits room (body s limits room extra d at)
   unfolding body
-  body-fits extra at = go (literals s (limits .literals) room at) (literals-fit s (limits .literals) room at)
+  body-fits extra at d k = go (literals s (limits .literals) room at) (literals-fit s (limits .literals) room at)
     where
       close : (so : List ℤ) (e : ℕ) → length so ≤ room → (x : EndOfLine) → Fits room (lineEnds x (says (clause extra so)) (refuses s Reason.lineEndExpected e so))
       close so e h end.Missing = h
       close so e h (end.Past n) = h
 
-      go : (l : Literals) → LiteralsFit room l → Fits room (clauseOf s extra l)
+      go : (l : Literals) → LiteralsFit room l → Fits room (clauseOf s extra d l)
+      go nothing h = k
       go (closed so e) h = close so e h (endOfLine s e)
       go (stopped r so) h = h
 
@@ -226,7 +214,7 @@ module _ (s : List ℕ) (limits : Limits) (room : ℕ) where
   unfolding owed
   owed-fits extra at =
       let e = linebreaks s at in
-      number-stands (Fits room) (intAt s (limits .literals) e) (body-fits extra e) (refuses-fits Reason.literalsExpected e)
+      body-fits extra e (refuses s Reason.literalsExpected e []) (refuses-fits Reason.literalsExpected e)
 
   marked-fits : (big : Reason) (endPermitted : Bool) (at : ℕ) (u : Uint) → Fits room (marked s limits room big endPermitted at u)
   marked-fits big endPermitted at uint.Missing = no-clause-fits endPermitted at
@@ -235,6 +223,6 @@ module _ (s : List ℕ) (limits : Limits) (room : ℕ) where
 
   pub clause-at-fits : (f : Format) (endPermitted : Bool) (at : ℕ) → Fits room (clauseAt s limits room f endPermitted at)
   unfolding clauseAt plainAt weightedAt groupedAt
-  clause-at-fits Plain endPermitted at = number-stands (Fits room) (intAt s (limits .literals) at) (body-fits 0 at) (no-clause-fits endPermitted at)
+  clause-at-fits Plain endPermitted at = body-fits 0 at (noClause s endPermitted at) (no-clause-fits endPermitted at)
   clause-at-fits Weighted endPermitted at = marked-fits Reason.weightTooBig endPermitted at (uintAt s largest at)
   clause-at-fits Grouped endPermitted at = marked-fits Reason.groupTooBig endPermitted at (bracedUintAt s (limits .groups) at)

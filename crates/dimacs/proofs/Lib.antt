@@ -8,10 +8,10 @@ pub mod Spans
 pub mod Lines
 pub mod Words
 pub mod Numbers
+pub mod Rows
 pub mod Clauses
 pub mod Buffer
 pub mod Literals
 pub mod Texts
 pub mod Logs
-pub mod Values
 pub mod Writing

@@ -1,55 +1,50 @@
--- Reading literals, one law for each way that a number at a place leads. Assumes nothing.
-use Prim.Native.Nat.{ℕ, _+_, _≤_, _<_}
-use mathlib.Core.Bool.{Bool, true, false, cond}
-use mathlib.Core.List.{List, [], _∷_, _++_}
-use mathlib.Core.Path.{_≡_, refl, sym, _∙_, subst}
+-- Reading the literals of a clause, one law for each way that a row leads. Assumes nothing.
+use Prim.Native.Nat.{ℕ, _-_, _≤_, _<_}
+use mathlib.Core.Bool.{cond}
+use mathlib.Core.List.{List, []}
+use mathlib.Core.Path.{_≡_, refl, sym, _∙_}
 use native.Mathlib.Omega.{arith}
-use borrow.Author.Tests.{le-leb, lt-leb, eq-eqb, ne-eqb}
-use lib.Dec.{leb, eqb}
+use borrow.Author.Tests.{eq-eqb, ne-eqb}
+use lib.Dec.{eqb}
 use lib.ListN.{length}
 use lib.IntN.{ℤ}
 use Rattle.dimacs.specs.Names.{Reason, refusal}
 use Rattle.dimacs.specs.Tokens.{linebreaks, intAt}
-use Rattle.dimacs.specs.Clauses.{Literals, closed, stopped, Reading, reads, onInt, nextLiteral, literalsFrom}
-use Rattle.dimacs.specs.declared.Int.{Int}
+use Rattle.dimacs.specs.Rows.{Row, ends, closes, stops, Reading, reads, row}
+use Rattle.dimacs.specs.Clauses.{nothing, closed, stopped, onRow, nextRow, literalsFrom, literals}
+use Rattle.dimacs.specs.declared.Refusal.{Refusal}
 use Rattle.dimacs.specs.declared.Int.the-variants as int
 use Rattle.dimacs.proofs.Loops.{after}
-use Rattle.dimacs.proofs.Spans.{IntMoves, int-moves, linebreaks-spans}
-use Rattle.dimacs.proofs.Clauses.{left, literals-step}
+use Rattle.dimacs.proofs.Rows.{row-ends}
+use Rattle.dimacs.proofs.Clauses.{literals-step}
 
-module _ (s : List ℕ) (limit room at : ℕ) (f : Bool) (so : List ℤ) where
-  on : {i : Int} → intAt s limit at ≡ i → literalsFrom s limit room (reads at f so) ≡ after (onInt s limit room i (reads at f so)) (literalsFrom s limit room)
-  unfolding nextLiteral
-  on e = rw e at (literals-step s limit room (reads at f so))
+module _ (s : List ℕ) (limit room : ℕ) (r : Reading) where
+  on : {w : Row} → row s limit room r ≡ w → literalsFrom s limit room r ≡ after (onRow s limit room (length (r .so)) w) (literalsFrom s limit room)
+  unfolding nextRow
+  on e = rw e at (literals-step s limit room r)
 
-  pub closes : {n : ℕ} → intAt s limit at ≡ int.Zero n → literalsFrom s limit room (reads at f so) ≡ closed so n
-  closes e = on e
+  pub closed-by : {n : ℕ} {so : List ℤ} → row s limit room r ≡ closes n so → literalsFrom s limit room r ≡ closed so n
+  closed-by e = on e
 
-  pub too-big : intAt s limit at ≡ int.TooBig → literalsFrom s limit room (reads at f so) ≡ stopped (refusal s Reason.literalTooBig at) so
-  too-big e = on e
+  pub stopped-by : {x : Refusal} {so : List ℤ} → row s limit room r ≡ stops x so → literalsFrom s limit room r ≡ stopped x so
+  stopped-by e = on e
 
-  pub full : {v : ℤ} {n : ℕ} → intAt s limit at ≡ int.Literal v n → room ≤ length so
-      → literalsFrom s limit room (reads at f so) ≡ stopped (refusal s Reason.bufferFull at) so
-  full e h = on e ∙ rw (le-leb room (length so) h)
+  module _ {at : ℕ} {so : List ℤ} (e : row s limit room r ≡ ends at so) where
+    pub nothing-there : length so ≡ 0 → literalsFrom s limit room r ≡ nothing
+    nothing-there z = on e ∙ rw (eq-eqb (length so) 0 z)
 
-  pub takes : {v : ℤ} {n : ℕ} → intAt s limit at ≡ int.Literal v n → length so < room
-      → literalsFrom s limit room (reads at f so) ≡ literalsFrom s limit room (reads n false (so ++ (v ∷ [])))
-  takes e h = on e ∙ rw (lt-leb room (length so) h)
+    module _ (z : length so ≡ 0 → ⊥) where
+      pub none-after-lines : length so ≡ length (r .so) → literalsFrom s limit room r ≡ stopped (refusal s Reason.literalExpectedAfterLines at) so
+      none-after-lines h = on e ∙ rw (ne-eqb (length so) 0 z, eq-eqb (length so) (length (r .so)) h)
 
-  pub none-after-lines : f ≡ true → intAt s limit at ≡ int.Missing
-      → literalsFrom s limit room (reads at f so) ≡ stopped (refusal s Reason.literalExpectedAfterLines at) so
-  none-after-lines t e = on e ∙ rw t
+      module _ (h : length so ≡ length (r .so) → ⊥) (q : ℕ) (is : q ≡ linebreaks s at) where
+        pub none-on-line : q ≡ at → literalsFrom s limit room r ≡ stopped (refusal s Reason.literalExpected at) so
+        none-on-line k = on e ∙ rw (ne-eqb (length so) 0 z, ne-eqb (length so) (length (r .so)) h, sym is, eq-eqb q at k)
 
-  module _ (t : f ≡ false) (e : intAt s limit at ≡ int.Missing) (q : ℕ) (is : q ≡ linebreaks s at) where
-    pub none-on-line : q ≡ at → literalsFrom s limit room (reads at f so) ≡ stopped (refusal s Reason.literalExpected at) so
-    none-on-line h = on e ∙ rw (t, sym is, eq-eqb q at h)
+        pub breaks : (q ≡ at → ⊥) → literalsFrom s limit room r ≡ literalsFrom s limit room (reads q so)
+        breaks k = on e ∙ rw (ne-eqb (length so) 0 z, ne-eqb (length so) (length (r .so)) h, sym is, ne-eqb q at k)
 
-    pub breaks : (q ≡ at → ⊥) → literalsFrom s limit room (reads at f so) ≡ literalsFrom s limit room (reads q true so)
-    breaks h = on e ∙ rw (t, sym is, ne-eqb q at h)
-
--- What is left falls with each number and each break of lines.
-pub takes-falls : (s : List ℕ) (limit at : ℕ) (f : Bool) {v : ℤ} {n : ℕ} → intAt s limit at ≡ int.Literal v n → left s (reads n false []) < left s (reads at f [])
-takes-falls s limit at f e = let m = subst (IntMoves s at) e (int-moves s limit at) in omega arith
-
-pub breaks-falls : (s : List ℕ) (at q : ℕ) (f : Bool) → f ≡ false → q ≡ linebreaks s at → left s (reads q true []) < left s (reads at f [])
-breaks-falls s at q f t is = rw (t, is) (omega (arith, linebreaks-spans s at))
+-- Where no number stands there are no literals.
+pub literals-none : (s : List ℕ) (limit room at : ℕ) → intAt s limit at ≡ int.Missing → literals s limit room at ≡ nothing
+unfolding literals
+literals-none s limit room at e = nothing-there s limit room (reads at []) (row-ends s limit room at [] e) refl

@@ -1,4 +1,4 @@
--- The laws of reading a log: a value and then the rest of the values, a line and then the rest of the lines. Assumes nothing.
+-- The laws of reading a log: a line and then the rest of the lines. Assumes nothing.
 use Prim.Native.Nat.{ℕ, zero, suc, _+_, _-_, _≤_, _<_, max}
 use mathlib.Core.Bool.{Bool, true, false, _||_}
 use mathlib.Core.List.{List, [], _∷_}
@@ -11,8 +11,9 @@ use lib.IntN.{ℤ}
 use Rattle.dimacs.specs.Loop.{Step, again, answer}
 use Rattle.dimacs.specs.Bytes.{bytes}
 use Rattle.dimacs.specs.Names.{Reason, numbered, refusal, ceiling}
-use Rattle.dimacs.specs.Tokens.{unmoved, atEnd, blanks, nextLine, fixed, strictComment, intAt, endOfLine, lineEnds}
-use Rattle.dimacs.specs.Logs.{LogAnswer, accepted, refusedLog, Log, logAt, isClosed, isSaid, Values, values, stopped, Row, rowAt, onValue, nextValue, valuesFrom, lineRead, valuesRead, valueLine, solutionIs, solutionLine, logEnd, otherLine, logLine, logFrom, log}
+use Rattle.dimacs.specs.Tokens.{unmoved, atEnd, blanks, nextLine, fixed, strictComment, endOfLine, lineEnds}
+use Rattle.dimacs.specs.Rows.{Row, ends, closes, stops, reads, row}
+use Rattle.dimacs.specs.Logs.{LogAnswer, accepted, refusedLog, Log, logAt, isClosed, isSaid, lineRead, valuesRead, valueLine, solutionIs, solutionLine, logEnd, otherLine, logLine, logFrom, log}
 use Rattle.dimacs.specs.declared.Mode.{Mode}
 use Rattle.dimacs.specs.declared.Mode.the-variants.{Strict, Lenient}
 use Rattle.dimacs.specs.declared.Verdict.{Verdict}
@@ -21,27 +22,12 @@ use Rattle.dimacs.specs.declared.Solution.{Solution}
 use Rattle.dimacs.specs.declared.Solution.the-variants.{Unsaid}
 use Rattle.dimacs.specs.declared.Assignment.{Assignment}
 use Rattle.dimacs.specs.declared.Assignment.the-variants.{Unbegun, Begun, Closed}
-use Rattle.dimacs.specs.declared.Int.{Int}
-use Rattle.dimacs.specs.declared.Int.the-variants as int
 use Rattle.dimacs.specs.declared.EndOfLine.{EndOfLine}
 use Rattle.dimacs.specs.declared.EndOfLine.the-variants as end
 use Rattle.dimacs.proofs.Loops.{Leads, Falls, after, unrolled, kept}
 use Rattle.dimacs.proofs.Tests.{chosen, neither-right}
-use Rattle.dimacs.proofs.Spans.{Spans, then-spans, Moves, moves, then-moves, moves-then, EndCloses, end-closes, blanks-spans, strict-comment-spans, next-line-moves, fixed-spans, IntMoves, int-moves}
-
--- The literals of a line end, or are refused, within reach.
-abbrev pub ValuesSpan : List ℕ → ℕ → Values → Type 0
-ValuesSpan s at (values e a so) = Spans s at e
-ValuesSpan s at (stopped r so) = Spans s at (r .place)
-
--- Literals are added, and only while there is room.
-pub record Grown (room : ℕ) (so more : List ℤ) : Type 0 where
-  pub on : length so ≤ length more
-  pub within : length more ≤ max room (length so)
-
-abbrev pub ValuesGrow : ℕ → List ℤ → Values → Type 0
-ValuesGrow room so (values at a more) = Grown room so more
-ValuesGrow room so (stopped r more) = Grown room so more
+use Rattle.dimacs.proofs.Spans.{Spans, then-spans, Moves, moves, then-moves, moves-then, EndCloses, end-closes, blanks-spans, strict-comment-spans, next-line-moves, fixed-spans}
+use Rattle.dimacs.proofs.Rows.{RowSpans, row-spans}
 
 -- A line leads to a later place within the text, or to an answer whose refusal is within reach.
 abbrev pub LogSpans : List ℕ → ℕ → LogAnswer → Type 0
@@ -52,64 +38,6 @@ abbrev pub LineLeads : List ℕ → ℕ → Step Log LogAnswer → Type 0
 LineLeads s at = Leads (λ l. Moves s at (l .at)) (LogSpans s at)
 
 module _ (s : List ℕ) (room : ℕ) where
-  rest : Row → ℕ
-  rest r = length s - r .at
-
-  values-falls : (r : Row) → Falls rest r (nextValue s room r)
-  unfolding nextValue rest
-  values-falls r = go (intAt s ceiling (r .at)) (int-moves s ceiling (r .at))
-    where
-      go : (i : Int) → IntMoves s (r .at) i → Falls rest r (onValue s room i (r .at) (r .so))
-      go int.Missing m = tt
-      go (int.Zero n) m = tt
-      go (int.Literal v n) m = chosen (Falls rest r) (leb room (length (r .so))) (λ _. tt) (λ _. omega arith)
-      go int.TooBig m = tt
-
-  -- One value, and then the rest of them.
-  pub values-step : (r : Row) → valuesFrom s room r ≡ after (nextValue s room r) (valuesFrom s room)
-  unfolding valuesFrom rest
-  values-step r = unrolled (nextValue s room) (values 0 Begun []) rest values-falls (suc (length s)) r (omega arith)
-
-  values-keep : (at : ℕ) (r : Row) → Spans s at (r .at) → Leads (λ x. Spans s at (x .at)) (ValuesSpan s at) (nextValue s room r)
-  unfolding nextValue numbered
-  values-keep at r h = go (intAt s ceiling (r .at)) (int-moves s ceiling (r .at))
-    where
-      On : Step Row Values → Type 0
-      On = Leads (λ x. Spans s at (x .at)) (ValuesSpan s at)
-
-      go : (i : Int) → IntMoves s (r .at) i → On (onValue s room i (r .at) (r .so))
-      go int.Missing m = h
-      go (int.Zero n) m = omega arith
-      go (int.Literal v n) m = chosen On (leb room (length (r .so))) (λ _. h) (λ _. omega arith)
-      go int.TooBig m = h
-
-  pub values-span : (r : Row) → ValuesSpan s (r .at) (valuesFrom s room r)
-  unfolding valuesFrom rest
-  values-span r =
-      kept (nextValue s room) (values 0 Begun []) rest values-falls (λ x. Spans s (r .at) (x .at)) (ValuesSpan s (r .at)) (values-keep (r .at))
-      (suc (length s)) r (omega arith) (omega arith)
-
-  grows-on : (so : List ℤ) (r : Row) → Grown room so (r .so) → Leads (λ x. Grown room so (x .so)) (ValuesGrow room so) (nextValue s room r)
-  unfolding nextValue
-  grows-on so r h = go (intAt s ceiling (r .at))
-    where
-      On : Step Row Values → Type 0
-      On = Leads (λ x. Grown room so (x .so)) (ValuesGrow room so)
-
-      go : (i : Int) → On (onValue s room i (r .at) (r .so))
-      go int.Missing = h
-      go (int.Zero n) = h
-      go (int.Literal v n) =
-          chosen On (leb room (length (r .so))) (λ _. h)
-          (λ e. let l = leb-false room (length (r .so)) e in omega (arith, length-append (r .so) (v ∷ [])))
-      go int.TooBig = h
-
-  pub values-grow : (r : Row) → ValuesGrow room (r .so) (valuesFrom s room r)
-  unfolding valuesFrom rest
-  values-grow r =
-      kept (nextValue s room) (values 0 Begun []) rest values-falls (λ x. Grown room (r .so) (x .so)) (ValuesGrow room (r .so)) (grows-on (r .so))
-      (suc (length s)) r (omega arith) (omega arith)
-
   -- A line that is read from a place past its first bytes.
   line-read-leads : (at e : ℕ) (solution : Solution) (a : Assignment) (so : List ℤ) → Moves s at e → LineLeads s at (lineRead s e solution a so)
   unfolding numbered
@@ -123,15 +51,16 @@ module _ (s : List ℕ) (room : ℕ) where
   value-line-leads : (at e : ℕ) (l : Log) → Moves s at e → LineLeads s at (valueLine s room e l)
   unfolding valueLine
   value-line-leads at e l m =
-      let r : Row = rowAt (blanks s e) (l .so) in
-      go (valuesFrom s room r) (values-span r)
+      let r = reads (blanks s e) (l .so) in
+      go (row s ceiling room r) (row-spans s ceiling room r)
     where
       k : Moves s at (blanks s e)
       k = then-moves m (blanks-spans s e)
 
-      go : (v : Values) → ValuesSpan s (blanks s e) v → LineLeads s at (valuesRead s (l .solution) v)
-      go (values n a so) h = line-read-leads at n (l .solution) a so (then-moves k h)
-      go (stopped r so) h = omega (arith, k)
+      go : (w : Row) → RowSpans s (blanks s e) w → LineLeads s at (valuesRead s (l .solution) w)
+      go (ends n so) h = line-read-leads at n (l .solution) Begun so (then-moves k h)
+      go (closes n so) h = line-read-leads at n (l .solution) Closed so (omega (arith, k))
+      go (stops r so) h = omega (arith, k)
 
   solution-is-leads : (at e : ℕ) (v : Verdict) (w : List ℕ) (l : Log) (otherwise : Step Log LogAnswer) → Moves s at e → LineLeads s at otherwise
       → LineLeads s at (solutionIs s v w e l otherwise)

@@ -1,70 +1,53 @@
 -- A clause of each format.
-use Prim.Native.Nat.{ℕ, suc, _+_}
-use mathlib.Core.Bool.{Bool, true, false, cond, _&&_}
-use mathlib.Core.List.{List, [], _∷_, _++_}
+use Prim.Native.Nat.{ℕ, suc}
+use mathlib.Core.Bool.{Bool, cond, _&&_}
+use mathlib.Core.List.{List, [], _++_}
 use lib.ListN.{length, drop}
-use lib.Dec.{leb}
+use lib.Dec.{eqb}
 use lib.IntN.{ℤ}
 use Rattle.dimacs.specs.Loop.{Step, again, answer, loop}
 use Rattle.dimacs.specs.Names.{Reason, refusal, largest}
-use Rattle.dimacs.specs.Tokens.{unmoved, atEnd, linebreaks, intAt, uintAt, bracedUintAt, endOfLine, lineEnds, numberStands}
+use Rattle.dimacs.specs.Tokens.{unmoved, atEnd, linebreaks, uintAt, bracedUintAt, endOfLine, lineEnds}
+use Rattle.dimacs.specs.Rows.{Row, ends, closes, stops, Reading, reads, row}
 use Rattle.dimacs.specs.declared.Format.{Format}
 use Rattle.dimacs.specs.declared.Limits.{Limits}
 use Rattle.dimacs.specs.declared.Format.the-variants.{Plain, Weighted, Grouped}
 use Rattle.dimacs.specs.declared.Refusal.{Refusal}
 use Rattle.dimacs.specs.declared.Uint.{Uint}
 use Rattle.dimacs.specs.declared.Uint.the-variants as uint
-use Rattle.dimacs.specs.declared.Int.{Int}
-use Rattle.dimacs.specs.declared.Int.the-variants as int
 
 -- What a lent buffer holds after something is laid into it: that, then its old contents.
 abbrev pub laid : {A : Type 0} → List A → List A → List A
 laid so old = so ++ drop (length so) old
 
--- What a list of literals comes to: they close, at the place past the 0; or a refusal, with the literals before it.
+-- What a list of literals comes to: no number stands at its place; they close, at the place past the 0; or a refusal, with the literals before it.
 pub data Literals : Type 0 where
+  nothing : Literals
   closed : List ℤ → ℕ → Literals
   stopped : Refusal → List ℤ → Literals
 
--- Reading literals: the place, whether line ends came since the last literal, and the literals so far.
-pub record Reading : Type 0 where
-  pub at : ℕ
-  pub fresh : Bool
-  pub so : List ℤ
-
--- A state of reading by its three parts.
-abbrev pub reads : ℕ → Bool → List ℤ → Reading
-reads at fresh so = record { at = at; fresh = fresh; so = so }
-
 module _ (s : List ℕ) (limit room : ℕ) where
-  -- Where no number stands: line ends may come once, and then a number must.
-  abbrev pub onMissing : ℕ → Bool → List ℤ → Step Reading Literals
-  onMissing at true so = answer (stopped (refusal s Reason.literalExpectedAfterLines at) so)
-  onMissing at false so =
+  -- By a row, after so many literals: where it ends without its 0, line ends must come and then a row that adds a literal.
+  abbrev pub onRow : ℕ → Row → Step Reading Literals
+  onRow held (closes next so) = answer (closed so next)
+  onRow held (stops r so) = answer (stopped r so)
+  onRow held (ends at so) =
       let e = linebreaks s at in
-      cond (unmoved at e) (answer (stopped (refusal s Reason.literalExpected at) so)) (again (reads e true so))
+      cond (eqb (length so) 0) (answer nothing)
+      (cond (eqb (length so) held) (answer (stopped (refusal s Reason.literalExpectedAfterLines at) so))
+      (cond (unmoved at e) (answer (stopped (refusal s Reason.literalExpected at) so)) (again (reads e so))))
 
-  -- By the number at the place: the 0 closes, a literal beyond its limit or without room is refused, another is read.
-  abbrev pub onInt : Int → Reading → Step Reading Literals
-  onInt int.Missing r = onMissing (r .at) (r .fresh) (r .so)
-  onInt (int.Zero next) r = answer (closed (r .so) next)
-  onInt int.TooBig r = answer (stopped (refusal s Reason.literalTooBig (r .at)) (r .so))
-  onInt (int.Literal v next) r =
-      cond (leb room (length (r .so)))
-      (answer (stopped (refusal s Reason.bufferFull (r .at)) (r .so)))
-      (again (reads next false (r .so ++ (v ∷ []))))
-
-  -- One number, or one break of lines.
-  unfoldable pub nextLiteral : Reading → Step Reading Literals
-  nextLiteral r = onInt (intAt s limit (r .at)) r
+  -- One row, and the line ends after it.
+  unfoldable pub nextRow : Reading → Step Reading Literals
+  nextRow r = onRow (length (r .so)) (row s limit room r)
 
   -- The literals from a state on.
   unfoldable pub literalsFrom : Reading → Literals
-  literalsFrom = loop nextLiteral (stopped (refusal s Reason.literalExpected 0) []) (length s + length s + 2)
+  literalsFrom = loop nextRow nothing (suc (length s))
 
-  -- The literals from a place at which a number stands, up to the 0.
+  -- The literals from a place on, up to the 0.
   unfoldable pub literals : ℕ → Literals
-  literals at = literalsFrom (reads at false [])
+  literals at = literalsFrom (reads at [])
 
 -- What a call for the next clause answers: a clause's weight or group, 0 if the format has neither, and its literals; the end; or a refusal, with
 -- the literals of the unfinished clause.
@@ -87,25 +70,24 @@ module _ (s : List ℕ) where
   abbrev pub refuses : Reason → ℕ → List ℤ → Answered
   refuses why at so = says (refused (refusal s why at) so) at
 
-  -- After the 0, a line end or the end of the text must stand on its line.
-  abbrev pub clauseOf : ℕ → Literals → Answered
-  clauseOf extra (closed so at) = lineEnds (endOfLine s at) (says (clause extra so)) (refuses Reason.lineEndExpected at so)
-  clauseOf extra (stopped r so) = says (refused r so) (r .place)
+  -- By the literals: after the 0, a line end or the end of the text must stand on its line. Where there is nothing, another answer is given.
+  abbrev pub clauseOf : ℕ → Answered → Literals → Answered
+  clauseOf extra otherwise nothing = otherwise
+  clauseOf extra otherwise (closed so at) = lineEnds (endOfLine s at) (says (clause extra so)) (refuses Reason.lineEndExpected at so)
+  clauseOf extra otherwise (stopped r so) = says (refused r so) (r .place)
 
   -- Where no clause stands: the end of the text if it is permitted, else refusal 9.
   unfoldable pub noClause : Bool → ℕ → Answered
   noClause endPermitted at = cond (endPermitted && atEnd s at) (says ended at) (refuses Reason.clauseExpected at [])
 
 module _ (s : List ℕ) (limits : Limits) (room : ℕ) where
-  -- A clause from its literals on.
-  unfoldable pub body : ℕ → ℕ → Answered
-  body extra at = clauseOf s extra (literals s (limits .literals) room at)
+  -- A clause from its literals on, or another answer where no number stands.
+  unfoldable pub body : ℕ → Answered → ℕ → Answered
+  body extra otherwise at = clauseOf s extra otherwise (literals s (limits .literals) room at)
 
   -- After a weight or group, line ends and comments may come; then literals must.
   unfoldable pub owed : ℕ → ℕ → Answered
-  owed extra at =
-      let e = linebreaks s at in
-      numberStands (intAt s (limits .literals) e) (body extra e) (refuses s Reason.literalsExpected e [])
+  owed extra at = let e = linebreaks s at in body extra (refuses s Reason.literalsExpected e []) e
 
   -- By the weight or group at a place.
   abbrev pub marked : Reason → Bool → ℕ → Uint → Answered
@@ -115,7 +97,7 @@ module _ (s : List ℕ) (limits : Limits) (room : ℕ) where
 
   -- A plain clause begins with its first number.
   unfoldable pub plainAt : Bool → ℕ → Answered
-  plainAt endPermitted at = numberStands (intAt s (limits .literals) at) (body 0 at) (noClause s endPermitted at)
+  plainAt endPermitted at = body 0 (noClause s endPermitted at) at
 
   -- A weighted clause begins with its weight.
   unfoldable pub weightedAt : Bool → ℕ → Answered

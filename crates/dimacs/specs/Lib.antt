@@ -4,6 +4,7 @@ pub mod Bytes
 pub mod Names
 pub mod Tokens
 pub mod Header
+pub mod Rows
 pub mod Clauses
 pub mod Texts
 pub mod Logs

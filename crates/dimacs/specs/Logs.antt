@@ -1,14 +1,14 @@
 -- Solver logs: a verdict and an assignment.
-use Prim.Native.Nat.{ℕ, suc, _+_}
+use Prim.Native.Nat.{ℕ, suc}
 use mathlib.Core.Bool.{Bool, true, false, cond, _||_}
-use mathlib.Core.List.{List, [], _∷_, _++_}
+use mathlib.Core.List.{List, []}
 use lib.ListN.{length}
-use lib.Dec.{leb}
 use lib.IntN.{ℤ}
 use Rattle.dimacs.specs.Loop.{Step, again, answer, loop}
 use Rattle.dimacs.specs.Bytes.{bytes}
 use Rattle.dimacs.specs.Names.{Reason, refusal, ceiling}
-use Rattle.dimacs.specs.Tokens.{unmoved, atEnd, blanks, nextLine, fixed, strictComment, intAt, endOfLine, lineEnds}
+use Rattle.dimacs.specs.Tokens.{unmoved, atEnd, blanks, nextLine, fixed, strictComment, endOfLine, lineEnds}
+use Rattle.dimacs.specs.Rows.{Row, ends, closes, stops, reads, row}
 use Rattle.dimacs.specs.declared.Mode.{Mode}
 use Rattle.dimacs.specs.declared.Mode.the-variants.{Strict, Lenient}
 use Rattle.dimacs.specs.declared.Refusal.{Refusal}
@@ -18,8 +18,6 @@ use Rattle.dimacs.specs.declared.Solution.{Solution}
 use Rattle.dimacs.specs.declared.Solution.the-variants.{Unsaid, Said}
 use Rattle.dimacs.specs.declared.Assignment.{Assignment}
 use Rattle.dimacs.specs.declared.Assignment.the-variants.{Unbegun, Begun, Closed}
-use Rattle.dimacs.specs.declared.Int.{Int}
-use Rattle.dimacs.specs.declared.Int.the-variants as int
 
 -- What a log comes to: its verdict and all its literals, or a refusal, with all literals before it.
 pub data LogAnswer : Type 0 where
@@ -53,37 +51,6 @@ abbrev pub verdictOf : Solution → Verdict
 verdictOf Unsaid = Unknown
 verdictOf (Said v) = v
 
--- The literals of a value line: where they end, whether by the 0, and all literals so far; or a refusal.
-pub data Values : Type 0 where
-  values : ℕ → Assignment → List ℤ → Values
-  stopped : Refusal → List ℤ → Values
-
--- Reading values: the place and the literals so far.
-pub record Row : Type 0 where
-  pub at : ℕ
-  pub so : List ℤ
-
--- A state of reading values by its two parts.
-abbrev pub rowAt : ℕ → List ℤ → Row
-rowAt at so = record { at = at; so = so }
-
-module _ (s : List ℕ) (room : ℕ) where
-  -- By the number at the place: the 0 closes, a literal beyond the ceiling or without room is refused, another is read, and without one the line ends.
-  abbrev pub onValue : Int → ℕ → List ℤ → Step Row Values
-  onValue int.Missing at so = answer (values at Begun so)
-  onValue (int.Zero next) at so = answer (values next Closed so)
-  onValue int.TooBig at so = answer (stopped (refusal s Reason.literalTooBig at) so)
-  onValue (int.Literal v next) at so =
-      cond (leb room (length so)) (answer (stopped (refusal s Reason.bufferFull at) so)) (again (rowAt next (so ++ (v ∷ []))))
-
-  -- One number.
-  unfoldable pub nextValue : Row → Step Row Values
-  nextValue r = onValue (intAt s ceiling (r .at)) (r .at) (r .so)
-
-  -- The literals of a line from a place on.
-  unfoldable pub valuesFrom : Row → Values
-  valuesFrom = loop nextValue (values 0 Begun []) (suc (length s))
-
 module _ (s : List ℕ) where
   -- A value line or solution line is read: a line end or the end of the text must follow.
   abbrev pub lineRead : ℕ → Solution → Assignment → List ℤ → Step Log LogAnswer
@@ -91,9 +58,10 @@ module _ (s : List ℕ) where
       lineEnds (endOfLine s at) (λ next. again (logAt next solution assignment so)) (answer (refusedLog (refusal s Reason.lineEndExpected at) so))
 
   -- What follows the literals of a line.
-  abbrev pub valuesRead : Solution → Values → Step Log LogAnswer
-  valuesRead solution (values at assignment so) = lineRead at solution assignment so
-  valuesRead solution (stopped r so) = answer (refusedLog r so)
+  abbrev pub valuesRead : Solution → Row → Step Log LogAnswer
+  valuesRead solution (ends at so) = lineRead at solution Begun so
+  valuesRead solution (closes next so) = lineRead next solution Closed so
+  valuesRead solution (stops r so) = answer (refusedLog r so)
 
   -- A verdict by its word, or what follows where that does not stand.
   abbrev pub solutionIs : Verdict → List ℕ → ℕ → Log → Step Log LogAnswer → Step Log LogAnswer
@@ -122,7 +90,7 @@ module _ (s : List ℕ) where
 module _ (s : List ℕ) (room : ℕ) where
   -- After `v `, blanks, and literals up to the line's end or the closing 0.
   unfoldable pub valueLine : ℕ → Log → Step Log LogAnswer
-  valueLine at r = valuesRead s (r .solution) (valuesFrom s room (rowAt (blanks s at) (r .so)))
+  valueLine at r = valuesRead s (r .solution) (row s ceiling room (reads (blanks s at) (r .so)))
 
 module _ (s : List ℕ) (mode : Mode) (room : ℕ) where
   -- A comment is skipped. Else in this order: `v ` while no 0 has closed the assignment; `s ` if no solution line came; the end of

@@ -46,13 +46,6 @@ abbrev pub lineEnds : {A : Type 0} → EndOfLine → (ℕ → A) → A → A
 lineEnds (end.Past next) then otherwise = then next
 lineEnds end.Missing then otherwise = otherwise
 
--- By a signed number: the first where one stands, whatever it is, else the second.
-abbrev pub numberStands : {A : Type 0} → Int → A → A → A
-numberStands int.Missing there otherwise = otherwise
-numberStands (int.Zero next) there otherwise = there
-numberStands (int.Literal v next) there otherwise = there
-numberStands int.TooBig there otherwise = there
-
 -- A number at a place: none, or its size and the place past it and the blanks after it.
 pub data Number : Type 0 where
   none : Number

@@ -1,21 +1,23 @@
 -- The line of a clause, read where it begins. Assumes nothing.
 use Prim.Native.Nat.{ℕ, _+_, _≤_}
 use Prim.Native.Char.{code}
-use mathlib.Core.Bool.{Bool, false}
+use mathlib.Core.Bool.{Bool}
 use mathlib.Core.List.{List, [], _∷_, _++_, append-assoc, append-nil}
 use mathlib.Core.Path.{_≡_, refl, ap, sym, _∙_}
 use native.Mathlib.Omega.{arith}
 use lib.ListN.{length, getD, length-append}
 use lib.IntN.{ℤ, pos, negsuc}
 use Rattle.dimacs.specs.Names.{ceiling, largest}
-use Rattle.dimacs.specs.Tokens.{intAt, numberStands}
-use Rattle.dimacs.specs.Clauses.{closed, reads, literalsFrom, literals, clause, says, body, owed, plainAt, weightedAt, groupedAt, clauseAt}
+use Rattle.dimacs.specs.Tokens.{intAt}
+use Rattle.dimacs.specs.Rows.{closes, reads, row}
+use Rattle.dimacs.specs.Clauses.{closed, literals, Answered, clause, says, noClause, body, owed, plainAt, weightedAt, groupedAt, clauseAt}
 use Rattle.dimacs.specs.Writing.{digits, signedDigits, lead, items, clauseLine}
 use Rattle.dimacs.specs.declared.Format.{Format}
 use Rattle.dimacs.specs.declared.Format.the-variants.{Plain, Weighted, Grouped}
 use Rattle.dimacs.specs.declared.Limits.{Limits}
 use Rattle.dimacs.specs.declared.Int.the-variants as int
-use Rattle.dimacs.proofs.Literals.{closes, takes}
+use Rattle.dimacs.proofs.Rows.{row-closes, row-takes}
+use Rattle.dimacs.proofs.Literals.{closed-by}
 use Rattle.read_back.specs.ReadBack.{Each, ExtraFits, LiteralFits, ClauseFits, Clause, answerOf}
 use Rattle.read_back.proofs.Digits.{digits-write}
 use Rattle.read_back.proofs.Ends.{Ends, start, ends-past, ends-after}
@@ -65,19 +67,18 @@ module _ (s : List ℕ) (limit : ℕ) (low : limit ≤ ceiling) (t : List ℕ) w
   line-ends : (so : List ℤ) → Ends s (closing so t) → Ends s (code "\n" ∷ t)
   line-ends so h = ends-after (items so) 48 (10 ∷ t) h
 
-  -- A number stands where literals begin.
-  number-first : {A : Type 0} (so : List ℤ) → Each (LiteralFits limit) so → Ends s (closing so t)
-      → (a b : A) → numberStands (intAt s limit (start s (closing so t))) a b ≡ a
-  number-first [] k h a b = rw (first-zero h)
-  number-first (l ∷ so) k h a b = rw (first-literal l so (k .0) h)
-
-  literals-written : (room : ℕ) (so done : List ℤ) → Each (LiteralFits limit) so → length done + length so ≤ room → Ends s (closing so t)
-      → literalsFrom s limit room (reads (start s (closing so t)) false done) ≡ closed (done ++ so) (start s (code "\n" ∷ t))
-  literals-written room [] done k r h = rw append-nil (closes s limit room (start s (closing [] t)) false done (first-zero h))
-  literals-written room (l ∷ so) done k r h =
-      takes s limit room (start s (closing (l ∷ so) t)) false done (first-literal l so (k .0) h) (omega arith)
-      ∙ literals-written room so (done ++ (l ∷ [])) (k .1) (simp length-append (omega arith)) (rest-ends l so h)
+  row-written : (room : ℕ) (so done : List ℤ) → Each (LiteralFits limit) so → length done + length so ≤ room → Ends s (closing so t)
+      → row s limit room (reads (start s (closing so t)) done) ≡ closes (start s (code "\n" ∷ t)) (done ++ so)
+  row-written room [] done k r h = rw append-nil (row-closes s limit room (start s (closing [] t)) done (first-zero h))
+  row-written room (l ∷ so) done k r h =
+      row-takes s limit room (start s (closing (l ∷ so) t)) done (first-literal l so (k .0) h) (omega arith)
+      ∙ row-written room so (done ++ (l ∷ [])) (k .1) (simp length-append (omega arith)) (rest-ends l so h)
       ∙ rw (append-assoc done (l ∷ []) so)
+
+  literals-written : (room : ℕ) (so : List ℤ) → Each (LiteralFits limit) so → length so ≤ room → Ends s (closing so t)
+      → literals s limit room (start s (closing so t)) ≡ closed so (start s (code "\n" ∷ t))
+  unfolding literals
+  literals-written room so k r h = closed-by s limit room (reads (start s (closing so t)) []) (row-written room so [] k (omega arith) h)
 
 -- What stands before literals and their end, before what follows.
 abbrev leading : Format → ℕ → List ℕ → List ℕ
@@ -104,21 +105,21 @@ line-opens f extra so t = rw (line-on f extra so t) (go f)
 
 module _ (s : List ℕ) (limits : Limits) (low : limits .literals ≤ ceiling) (room : ℕ) (extra : ℕ) (so : List ℤ) (t : List ℕ)
     (k : Each (LiteralFits (limits .literals)) so) (few : length so ≤ room) where
-  body-written : Ends s (closing so t) → body s limits room extra (start s (closing so t)) ≡ says (clause extra so) (start s t)
-  unfolding body literals
-  body-written h =
-      rw (literals-written s (limits .literals) low t room so [] k (omega arith) h, line-written t (line-ends s (limits .literals) low t so h))
+  body-written : (d : Answered) → Ends s (closing so t) → body s limits room extra d (start s (closing so t)) ≡ says (clause extra so) (start s t)
+  unfolding body
+  body-written d h = rw (literals-written s (limits .literals) low t room so k few h, line-written t (line-ends s (limits .literals) low t so h))
 
   owed-written : Ends s (closing so t) → owed s limits room extra (start s (closing so t)) ≡ says (clause extra so) (start s t)
   unfolding owed
-  owed-written h =
-      rw (linebreaks-none (closing so t) (closing-opens so t .bare) h) (number-first s (limits .literals) low t so k h _ _ ∙ body-written h)
+  owed-written h = rw (linebreaks-none (closing so t) (closing-opens so t .bare) h) (body-written _ h)
 
   led : (f : Format) → ExtraFits f limits extra → Ends s (leading f extra (closing so t)) → (endPermitted : Bool)
       → clauseAt s limits room f endPermitted (start s (leading f extra (closing so t))) ≡ says (clause extra so) (start s t)
   unfolding clauseAt plainAt weightedAt groupedAt
   led Plain e h endPermitted =
-      number-first s (limits .literals) low t so k h _ _ ∙ ap (λ x. body s limits room x (start s (closing so t))) (sym e) ∙ body-written h
+      let at = start s (closing so t) in
+      let d = noClause s endPermitted at in
+      ap (λ x. body s limits room x d at) (sym e) ∙ body-written d h
   led Weighted e h endPermitted =
       let u = closing so t in
       rw (uint-written extra (32 ∷ u) h largest (parted so t) e) (owed-written (ends-after (digits extra) 32 u h))

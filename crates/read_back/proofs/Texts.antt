@@ -10,7 +10,7 @@ use lib.Dec.{leb, eqb}
 use lib.ListN.{length, getD}
 use Rattle.dimacs.specs.Names.{ceiling, largest}
 use Rattle.dimacs.specs.Tokens.{none, unsigned, intAt, uintAt, bracedUintAt}
-use Rattle.dimacs.specs.Clauses.{Answered, ended, says, noClause, plainAt, weightedAt, groupedAt, clauseAt}
+use Rattle.dimacs.specs.Clauses.{Answered, ended, says, noClause, body, plainAt, weightedAt, groupedAt, clauseAt}
 use Rattle.dimacs.specs.Texts.{cursorAt, oneMore, nextClause, answerAt, settled, turnBy, turn, answersFrom}
 use Rattle.dimacs.specs.Writing.{clauseLine}
 use Rattle.dimacs.specs.declared.Format.{Format}
@@ -21,6 +21,7 @@ use Rattle.dimacs.specs.declared.Final.the-variants as final
 use Rattle.dimacs.proofs.Tests.{chosen}
 use Rattle.dimacs.proofs.Lines.{no-byte}
 use Rattle.dimacs.proofs.Numbers.{read-none, read-end, unsigned-none, minus-no, braced-no, int-missing}
+use Rattle.dimacs.proofs.Literals.{literals-none}
 use Rattle.dimacs.proofs.Texts.{answers-step}
 use Rattle.read_back.specs.ReadBack.{Each, Clause, ClauseFits, answerOf, clauseLines}
 use Rattle.read_back.proofs.Ends.{Ends, start, ends-past, start-fits}
@@ -40,8 +41,8 @@ module _ (s : List ℕ) (at : ℕ) (h : length s ≤ at) where
   end-permitted = rw (le-leb (length s) at h)
 
   clause-none : (f : Format) (limits : Limits) (room : ℕ) → clauseAt s limits room f true at ≡ says ended at
-  unfolding clauseAt plainAt weightedAt groupedAt uintAt bracedUintAt
-  clause-none Plain limits room = rw (no-int (limits .literals)) end-permitted
+  unfolding clauseAt plainAt weightedAt groupedAt body uintAt bracedUintAt
+  clause-none Plain limits room = rw (literals-none s (limits .literals) room at (no-int (limits .literals))) end-permitted
   clause-none Weighted limits room = rw no-number end-permitted
   clause-none Grouped limits room = rw (braced-no s at (no-byte s at 122 h)) end-permitted
 

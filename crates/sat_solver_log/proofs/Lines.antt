@@ -10,8 +10,9 @@ use lib.Seq.{length-take-le}
 use lib.IntN.{ℤ}
 use Rattle.dimacs.specs.Loop.{Step, again, answer}
 use Rattle.dimacs.specs.Bytes.{bytes}
-use Rattle.dimacs.specs.Names.{Reason, refusal}
+use Rattle.dimacs.specs.Names.{Reason, refusal, ceiling}
 use Rattle.dimacs.specs.Tokens.{unmoved, atEnd, blanks, fixed, strictComment}
+use Rattle.dimacs.specs.Rows as row
 use Rattle.dimacs.specs.Logs as def
 use Rattle.dimacs.specs.declared.Mode.{Mode}
 use Rattle.dimacs.specs.declared.Mode.the-variants.{Strict, Lenient}
@@ -22,7 +23,7 @@ use Rattle.dimacs.specs.declared.Assignment.the-variants.{Unbegun, Begun, Close
 use Rattle.dimacs.specs.declared.Verdict.{Verdict}
 use Rattle.dimacs.specs.declared.Verdict.the-variants.{Yes, No, Unknown}
 use Rattle.dimacs.proofs.Tests.{chosen}
-use Rattle.dimacs.proofs.Logs.{Grown, ValuesGrow, values-grow}
+use Rattle.dimacs.proofs.Rows.{Grown, row-grows}
 use Rattle.sat_solver_log.specs.Answers.{logOf, leftBy}
 use Rattle.sat_solver_log.specs.Lines.{stateOf, lineOf, lineLeaves, Goes, valueStart, solutionStart}
 use Rattle.sat_solver_log.specs.declared.Log.{Log}
@@ -168,11 +169,14 @@ module _ (s : List ℕ) (mode : Mode) (room : ℕ) (l : def.Log) where
 
   value-line-grows : (at : ℕ) → Grows (def.valueLine s room at l)
   unfolding def.valueLine Grows
-  value-line-grows at = go (def.valuesFrom s room (def.rowAt (blanks s at) (l .so))) (values-grow s room (def.rowAt (blanks s at) (l .so)))
+  value-line-grows at =
+      let r = row.reads (blanks s at) (l .so) in
+      go (row.row s ceiling room r) (row-grows s ceiling room r)
     where
-      go : (d : def.Values) → ValuesGrow room (l .so) d → Grown room (l .so) (lineLeaves (def.valuesRead s (l .solution) d))
-      go (def.values n a so) g = subst⁻¹ (Grown room (l .so)) (line-read-leaves s n (l .solution) a so) g
-      go (def.stopped r so) g = g
+      go : (d : row.Row) → Grown room (l .so) (row.readBy d) → Grown room (l .so) (lineLeaves (def.valuesRead s (l .solution) d))
+      go (row.ends n so) g = subst⁻¹ (Grown room (l .so)) (line-read-leaves s n (l .solution) Begun so) g
+      go (row.closes n so) g = subst⁻¹ (Grown room (l .so)) (line-read-leaves s n (l .solution) Closed so) g
+      go (row.stops r so) g = g
 
   -- A line adds literals or none, and only while there is room.
   pub log-line-grows : Grown room (l .so) (lineLeaves (def.logLine s mode room l))

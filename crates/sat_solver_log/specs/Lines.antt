@@ -15,8 +15,6 @@ use Rattle.dimacs.specs.declared.Assignment.{Assignment}
 use Rattle.dimacs.specs.Clauses.{laid}
 use Rattle.sat_solver_log.specs.declared.Log.the-variants.{Refused}
 use Rattle.sat_solver_log.specs.declared.Reading.{Reading}
-use Rattle.sat_solver_log.specs.declared.Values.{Values}
-use Rattle.sat_solver_log.specs.declared.Values.the-variants.{Row, Stopped}
 use Rattle.sat_solver_log.specs.declared.Line.{Line}
 use Rattle.sat_solver_log.specs.declared.Line.the-variants.{Again, Answer}
 use Rattle.sat_solver_log.specs.Answers.{logOf, leftBy}
@@ -47,21 +45,6 @@ lineLeaves (answer a) = leftBy a
 pub record Goes (d : Step def.Log def.LogAnswer) (old new : List ℤ) (r : Line) : Type 0 where
   pub line : r ≡ lineOf d
   pub buffer : new ≡ laid (lineLeaves d) old
-
--- The literals of a line are told by their count.
-abbrev pub valuesOf : def.Values → Values
-valuesOf (def.values at a so) = Row at a (length so)
-valuesOf (def.stopped r so) = Stopped r (length so)
-
--- The literals that the literals of a line leave in the buffer.
-abbrev pub valuesLeave : def.Values → List ℤ
-valuesLeave (def.values at a so) = so
-valuesLeave (def.stopped r so) = so
-
--- The literals of a line are read: where they end, and the buffer after them.
-pub record Reads (d : def.Values) (old new : List ℤ) (r : Values) : Type 0 where
-  pub row : r ≡ valuesOf d
-  pub buffer : new ≡ laid (valuesLeave d) old
 
 -- Past `v ` while no 0 has closed the assignment, else the place itself.
 abbrev pub valueStart : List ℕ → Assignment → ℕ → ℕ

@@ -5,18 +5,15 @@ ghost use Prim.Native.Nat.{_≤_};
 ghost use lib.ListN.{length, take};
 ghost use lib.IntN.{ℤ};
 ghost use Rattle.dimacs.specs.Names.{modeOf};
-ghost use Rattle.dimacs.specs.Logs.{isClosed, isSaid, verdictOf, rowAt, valuesFrom, lineRead, solutionLine, logEnd, otherLine, valueLine, logLine, log};
+ghost use Rattle.dimacs.specs.Logs.{isClosed, isSaid, verdictOf, lineRead, solutionLine, logEnd, otherLine, valueLine, logLine, log};
 ghost use Rattle.sat_solver_log.specs.Answers.{logOf, logBy, Parses};
-ghost use Rattle.sat_solver_log.specs.Lines.{stateOf, refusedOf, lineOf, valueStart, solutionStart, Reads, Goes};
+ghost use Rattle.sat_solver_log.specs.Lines.{stateOf, refusedOf, lineOf, valueStart, solutionStart, Goes};
 use dimacs::ASSIGNMENT_OPEN;
 use dimacs::Assignment;
-use dimacs::BUFFER_FULL;
 use dimacs::CEILING;
 use dimacs::EndOfLine;
 use dimacs::FORMAT_OR_MODE_UNKNOWN;
-use dimacs::Int;
 use dimacs::LINE_END_EXPECTED;
-use dimacs::LITERAL_TOO_BIG;
 use dimacs::LOG_LINE_EXPECTED;
 use dimacs::Mode;
 use dimacs::Refusal;
@@ -24,6 +21,7 @@ use dimacs::SOLUTION_EXPECTED;
 use dimacs::Solution;
 use dimacs::Verdict;
 use dimacs::refuse;
+use rows::Row;
 
 // What a log comes to.
 pub enum Log {
@@ -39,19 +37,6 @@ pub struct Reading {
     pub solution: Solution,
     pub assignment: Assignment,
     pub count: usize,
-}
-
-// What the literals of a value line come to: where they end, whether by the 0, and how many the buffer holds; or a refusal.
-pub enum Values {
-    Row {
-        place: usize,
-        assignment: Assignment,
-        count: usize,
-    },
-    Stopped {
-        refusal: Refusal,
-        count: usize,
-    },
 }
 
 // What a line leads to: where the next is read, or the answer.
@@ -73,50 +58,6 @@ impl Reading {
             solution,
             assignment,
             count,
-        }
-    }
-}
-
-// The literals from a place on, up to the line's end or the closing 0, after those that the buffer holds.
-fn value_row(text: &[u8], at: usize, held: usize, lits: &mut [i32]) -> Values
-    requires { ⌜ held ≤ length (now lits) ⌝ }
-    ensures { λ r. ⌜ Reads (valuesFrom (now (text .entry)) (length (now (lits .entry))) (rowAt at (take held (now (lits .entry))))) (now (lits .entry)) (now (lits .exit)) r ⌝ }
-{
-    let mut place = at;
-    let mut count = held;
-    loop {
-        match token::int(text, place, CEILING) {
-            Int::Missing => {
-                return Values::Row {
-                    place,
-                    assignment: Assignment::Begun,
-                    count,
-                };
-            }
-            Int::Zero(next) => {
-                return Values::Row {
-                    place: next,
-                    assignment: Assignment::Closed,
-                    count,
-                };
-            }
-            Int::TooBig => {
-                return Values::Stopped {
-                    refusal: refuse(text, LITERAL_TOO_BIG, place),
-                    count,
-                };
-            }
-            Int::Literal(v, next) => {
-                if lits.len() <= count {
-                    return Values::Stopped {
-                        refusal: refuse(text, BUFFER_FULL, place),
-                        count,
-                    };
-                }
-                lits[count] = v;
-                count += 1;
-                place = next;
-            }
         }
     }
 }
@@ -154,17 +95,16 @@ fn line_read(
 
 // A value line after its `v `.
 fn value_line(text: &[u8], at: usize, reading: Reading, lits: &mut [i32]) -> Line
-    requires { ⌜ reading .count ≤ length (now lits) ⌝ }
     ensures { λ r. ⌜ Goes (valueLine (now (text .entry)) (length (now (lits .entry))) at (stateOf reading (take (reading .count) (now (lits .entry))))) (now (lits .entry)) (now (lits .exit)) r ⌝ }
 {
     let solution = reading.solution;
-    match value_row(text, token::skip_whitespace(text, at), reading.count, lits) {
-        Values::Row {
-            place,
-            assignment,
-            count,
-        } => line_read(text, place, solution, assignment, count),
-        Values::Stopped { refusal, count } => Line::Answer(Log::Refused { refusal, count }),
+    let from = token::skip_whitespace(text, at);
+    match rows::ints(text, from, CEILING, reading.count, lits) {
+        Row::Ends { place, count } => line_read(text, place, solution, Assignment::Begun, count),
+        Row::Closes { place, count } => {
+            line_read(text, place, solution, Assignment::Closed, count)
+        }
+        Row::Stops { refusal, count } => Line::Answer(Log::Refused { refusal, count }),
     }
 }
 

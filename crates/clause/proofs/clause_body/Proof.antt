@@ -1,6 +1,6 @@
--- `clause::clause_body` meets its contract: each way out by its law. Assumes nothing.
+-- `clause::clause_body` meets its contract: each way out by what the literals lead to. Assumes nothing.
 use mathlib.Core.Path.{sym, _∙_}
-use Rattle.clause.proofs.Bodies.{body-open, body-closed, body-stopped}
+use Rattle.clause.proofs.Bodies.{body-leads}
 use borrow.Author.Needs.{needs}
 use Rattle.clause.proofs.clause_body.Statement.{statement}
 use Rattle.clause.proofs.clause_body.Tie as tie
@@ -8,14 +8,17 @@ use Rattle.clause.proofs.clause_body.Tie as tie
 clause-lits-requires : tie.Need-clause-lits-requires
 clause-lits-requires c κs = search needs
 
+enum-told : tie.Need-enum-told
+enum-told c = search needs
+
 enum-known-count : tie.Need-enum-known-count
 enum-known-count c = search needs
 
 interactive-end-of-line-requires : tie.Need-interactive-end-of-line-requires
 interactive-end-of-line-requires c κs = search needs
 
-enum-told : tie.Need-enum-told
-enum-told c = search needs
+enum-told-2 : tie.Need-enum-told-2
+enum-told-2 c = search needs
 
 refused-requires : tie.Need-refused-requires
 refused-requires c κs = search needs
@@ -30,31 +33,35 @@ same-length : tie.Need-same-length
 same-length c = search needs
 
 returns : tie.Need-returns
-returns c = let g = c .before .before .before .before .before .count .given .1 in
-    body-open _ _ _ _ _ _ (rw g at (c .before .before .before .before .before .before .before .before .clause-lits .ensures)) (sym (c .before .before .before .interactive-end-of-line .ensures) ∙ c .before .enum-told .given .1) _ (c .refused .ensures)
+returns c = λ d u. body-leads _ _ _ _ _ _ d (c .before .before .before .clause-lits .ensures) (c .enum-told .given .1) _ u
 
 same-length-2 : tie.Need-same-length-2
 same-length-2 c = search needs
 
 returns-2 : tie.Need-returns-2
-returns-2 c = let g = c .before .before .before .before .before .count .given .1 in
-    body-closed _ _ _ _ _ _ (rw g at (c .before .before .before .before .before .before .before .before .clause-lits .ensures)) (sym (c .before .before .before .interactive-end-of-line .ensures) ∙ c .before .place .given .1)
+returns-2 c = λ d u. body-leads _ _ _ _ _ _ d (c .before .before .before .before .before .before .before .before .clause-lits .ensures) (c .before .before .before .before .before .count .given .1) .0 _ (sym (c .before .before .before .interactive-end-of-line .ensures) ∙ c .before .enum-told2 .given .1) (c .refused .ensures)
 
 same-length-3 : tie.Need-same-length-3
 same-length-3 c = search needs
 
 returns-3 : tie.Need-returns-3
-returns-3 c = let g = c .before .refusal .given .1 in
-    body-stopped _ _ _ _ _ _ (rw g at (c .before .before .before .before .clause-lits .ensures))
+returns-3 c = λ d u. body-leads _ _ _ _ _ _ d (c .before .before .before .before .before .before .before .before .clause-lits .ensures) (c .before .before .before .before .before .count .given .1) .1 _ (sym (c .before .before .before .interactive-end-of-line .ensures) ∙ c .before .place .given .1)
+
+same-length-4 : tie.Need-same-length-4
+same-length-4 c = search needs
+
+returns-4 : tie.Need-returns-4
+returns-4 c = λ d u. body-leads _ _ _ _ _ _ d (c .before .before .before .before .clause-lits .ensures) (c .before .refusal .given .1)
 
 pub clause-body-spec : {M : Type 1} → statement M
 clause-body-spec =
     tie.close
     (tie.spec
     clause-lits-requires
+    enum-told
     enum-known-count
     interactive-end-of-line-requires
-    enum-told
+    enum-told-2
     refused-requires
     enum-known-place
     enum-known-refusal
@@ -63,4 +70,6 @@ clause-body-spec =
     same-length-2
     returns-2
     same-length-3
-    returns-3)
+    returns-3
+    same-length-4
+    returns-4)

@@ -1,0 +1,2 @@
+-- The laws of reading a row into a lent buffer.
+pub mod Buffer

@@ -1,0 +1,116 @@
+-- `rows::ints` meets its contract: each way out, and each way on, by its law. Assumes nothing.
+use Prim.Native.Nat.{_-_}
+use mathlib.Core.Logic.{⊎-elim}
+use mathlib.Core.Path.{_≡_, sym, _∙_}
+use lib.ListN.{length}
+use mir.Syntax.{w32}
+use mir.Val.{toZ, ofZ}
+use Rattle.dimacs.proofs.Rows.{row-ends, row-closes, row-too-big, row-full, row-takes, takes-falls}
+use Rattle.dimacs.proofs.Buffer.{no-room, room}
+use Rattle.rows.proofs.Buffer.{Held, starts, starts-full, ends-at, closes-at, stops-at, puts}
+use borrow.Author.Needs.{needs}
+use native.Mathlib.Omega.{arith}
+use Rattle.rows.proofs.ints.Statement.{statement}
+use Rattle.rows.proofs.ints.Tie as tie
+
+abbrev Inv-loop : tie.InvT-loop
+Inv-loop text at limit held lits₀ place₀ count₀ lits place count = Held text limit at held lits₀ lits place count
+
+abbrev μ-loop : tie.MeasureT-loop
+μ-loop text at limit held lits₀ place₀ count₀ lits place count = length text - place
+
+-- The literal as the machine reads it back.
+read-back : (c : tie.Else2 Inv-loop μ-loop) → toZ w32 (ofZ w32 (c .before .before .v .given .0 .0)) ≡ c .before .before .v .given .0 .0
+read-back c = search needs
+
+loop-holds : tie.Need-loop-holds Inv-loop μ-loop
+loop-holds c = ⊎-elim (λ w. starts-full _ _ (omega arith) (omega arith)) (λ w. starts _ _ (omega arith) (omega arith)) (c .if1 .came)
+
+int-requires : tie.Need-int-requires Inv-loop μ-loop
+int-requires c κs = search needs
+
+enum-told : tie.Need-enum-told Inv-loop μ-loop
+enum-told c = search needs
+
+same-length : tie.Need-same-length Inv-loop μ-loop
+same-length c = search needs
+
+returns : tie.Need-returns Inv-loop μ-loop
+returns c = ends-at (c .before .before .before .loop .inv) (row-ends _ _ _ _ _ (sym (c .before .before .int .ensures) ∙ c .enum-told .given .1))
+
+enum-known-next : tie.Need-enum-known-next Inv-loop μ-loop
+enum-known-next c = search needs
+
+same-length-2 : tie.Need-same-length-2 Inv-loop μ-loop
+same-length-2 c = search needs
+
+returns-2 : tie.Need-returns-2 Inv-loop μ-loop
+returns-2 c = closes-at (c .before .before .before .before .loop .inv) (row-closes _ _ _ _ _ (sym (c .before .before .before .int .ensures) ∙ c .before .next .given .1))
+
+enum-told-2 : tie.Need-enum-told-2 Inv-loop μ-loop
+enum-told-2 c = search needs
+
+refuse-requires : tie.Need-refuse-requires Inv-loop μ-loop
+refuse-requires c κs = search needs
+
+same-length-3 : tie.Need-same-length-3 Inv-loop μ-loop
+same-length-3 c = search needs
+
+returns-3 : tie.Need-returns-3 Inv-loop μ-loop
+returns-3 c = stops-at (c .before .before .before .before .loop .inv) _ (c .refuse .ensures) (row-too-big _ _ _ _ _ (sym (c .before .before .before .int .ensures) ∙ c .before .enum-told2 .given .1))
+
+enum-known-v : tie.Need-enum-known-v Inv-loop μ-loop
+enum-known-v c = search needs
+
+refuse-requires-2 : tie.Need-refuse-requires-2 Inv-loop μ-loop
+refuse-requires-2 c κs = search needs
+
+same-length-4 : tie.Need-same-length-4 Inv-loop μ-loop
+same-length-4 c = search needs
+
+returns-4 : tie.Need-returns-4 Inv-loop μ-loop
+returns-4 c = stops-at (c .before .before .before .before .before .before .loop .inv) _ (c .refuse2 .ensures) (row-full _ _ _ _ _ (sym (c .before .before .before .before .before .int .ensures) ∙ c .before .before .before .v .given .1) (no-room (c .before .before .before .before .before .before .loop .inv .kept) (c .before .if2 .taken)))
+
+mul-v : tie.Need-mul-v Inv-loop μ-loop
+mul-v c = search needs
+
+slice-set-from-v : tie.Need-slice-set-from-v Inv-loop μ-loop
+slice-set-from-v c = search needs
+
+add-count : tie.Need-add-count Inv-loop μ-loop
+add-count c = search needs
+
+loop-less : tie.Need-loop-less Inv-loop μ-loop
+loop-less c = takes-falls _ _ _ (sym (c .before .before .before .before .before .int .ensures) ∙ c .before .before .before .v .given .1)
+
+loop-again : tie.Need-loop-again Inv-loop μ-loop
+loop-again c = let z = read-back (c .before) in
+    rw z (puts (c .before .before .before .before .before .before .loop .inv) _ _ (c .before .if2 .left) (row-takes _ _ _ _ _ (sym (c .before .before .before .before .before .int .ensures) ∙ c .before .before .before .v .given .1) (room (c .before .before .before .before .before .before .loop .inv .kept) (c .before .if2 .left))))
+
+pub ints-spec : {M : Type 1} → statement M
+ints-spec =
+    tie.close
+    (tie.spec
+    Inv-loop
+    μ-loop
+    loop-holds
+    int-requires
+    enum-told
+    same-length
+    returns
+    enum-known-next
+    same-length-2
+    returns-2
+    enum-told-2
+    refuse-requires
+    same-length-3
+    returns-3
+    enum-known-v
+    refuse-requires-2
+    same-length-4
+    returns-4
+    mul-v
+    slice-set-from-v
+    add-count
+    loop-less
+    loop-again)

@@ -1,0 +1,20 @@
+-- A row of the code by that of the definition, and what the lent buffer holds after it.
+use mathlib.Core.List.{List}
+use mathlib.Core.Path.{_≡_}
+use lib.ListN.{length}
+use lib.IntN.{ℤ}
+use Rattle.dimacs.specs.Rows as def
+use Rattle.dimacs.specs.Clauses.{laid}
+use Rattle.rows.specs.declared.Row.{Row}
+use Rattle.rows.specs.declared.Row.the-variants.{Ends, Closes, Stops}
+
+-- The literals of a row are told by their count.
+abbrev pub rowOf : def.Row → Row
+rowOf (def.ends at so) = Ends at (length so)
+rowOf (def.closes at so) = Closes at (length so)
+rowOf (def.stops r so) = Stops r (length so)
+
+-- A row is read: what it comes to, and the buffer after it.
+pub record Reads (d : def.Row) (old new : List ℤ) (r : Row) : Type 0 where
+  pub row : r ≡ rowOf d
+  pub buffer : new ≡ laid (def.readBy d) old

@@ -1,0 +1,2 @@
+-- What the answers of the reader of rows mean.
+pub mod Answers
