@@ -1,5 +1,7 @@
 //! Texts with something wrong in them.
 
+use std::ops::Range;
+
 use crate::{made::LIMITS, rng::Rng};
 
 /// Bytes that are put where they may not belong.
@@ -64,23 +66,30 @@ pub fn damage(text: &mut Vec<u8>, rng: &mut Rng) {
 }
 
 /// Replaces one of the text's numbers by one at a limit.
-fn number_at_limit(text: &mut Vec<u8>, rng: &mut Rng) {
+pub fn number_at_limit(text: &mut Vec<u8>, rng: &mut Rng) {
+    if let Some(number) = any_number(text, rng) {
+        text.splice(number, rng.pick(&LIMITS).bytes());
+    }
+}
+
+/// Where one of the text's numbers stands, if it has any.
+pub fn any_number(text: &[u8], rng: &mut Rng) -> Option<Range<usize>> {
     let begins: Vec<usize> = (0..text.len())
         .filter(|&at| text[at].is_ascii_digit() && (at == 0 || !text[at - 1].is_ascii_digit()))
         .collect();
     if begins.is_empty() {
-        return;
+        return None;
     }
     let begin = *rng.pick(&begins);
     let length = text[begin..]
         .iter()
         .take_while(|byte| byte.is_ascii_digit())
         .count();
-    text.splice(begin..begin + length, rng.pick(&LIMITS).bytes());
+    Some(begin..begin + length)
 }
 
 /// Takes a part of the text out, or puts it in a second time.
-fn part(text: &mut Vec<u8>, rng: &mut Rng) {
+pub fn part(text: &mut Vec<u8>, rng: &mut Rng) {
     let begin = rng.below(text.len());
     let end = begin + 1 + rng.below((text.len() - begin).min(8));
     if rng.percent(50) {

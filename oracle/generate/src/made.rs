@@ -45,6 +45,8 @@ struct Maker<'a> {
     crlf: usize,
     lines: usize,
     limits: usize,
+    /// Nothing is wrong on purpose.
+    right: bool,
 }
 
 impl<'a> Maker<'a> {
@@ -58,6 +60,15 @@ impl<'a> Maker<'a> {
             crlf,
             lines,
             limits,
+            right: false,
+        }
+    }
+
+    fn right(rng: &'a mut Rng) -> Self {
+        Self {
+            limits: 0,
+            right: true,
+            ..Self::new(rng)
         }
     }
 
@@ -184,8 +195,7 @@ impl<'a> Maker<'a> {
 }
 
 /// A text of clauses of format 0, 1 or 2.
-pub fn clauses(format: u8, rng: &mut Rng, most_clauses: usize) -> Made {
-    let mut maker = Maker::new(rng);
+fn clauses(format: u8, mut maker: Maker, most_clauses: usize) -> Made {
     let variables = 1 + maker.rng.below(5);
     let groups = 1 + maker.rng.below(3);
     let count = maker.rng.below(most_clauses + 1);
@@ -246,13 +256,13 @@ pub fn clauses(format: u8, rng: &mut Rng, most_clauses: usize) -> Made {
 fn header(maker: &mut Maker, format: u8, counts: [usize; 3]) {
     const WORDS: [&str; 3] = ["cnf", "wcnf", "gcnf"];
     let right = format as usize;
-    let word = if maker.rng.percent(98) {
+    let word = if maker.right || maker.rng.percent(98) {
         right
     } else {
         maker.rng.below(WORDS.len())
     };
     // In most texts all counts are right, in others one is not.
-    let wrong = if maker.rng.percent(40) {
+    let wrong = if !maker.right && maker.rng.percent(40) {
         maker.rng.below(3)
     } else {
         counts.len()
@@ -268,10 +278,9 @@ fn header(maker: &mut Maker, format: u8, counts: [usize; 3]) {
 }
 
 /// A solver's log.
-pub fn log(rng: &mut Rng) -> Made {
-    let mut maker = Maker::new(rng);
+fn log(mut maker: Maker, most_values: usize) -> Made {
     let variables = 1 + maker.rng.below(9);
-    let values = maker.rng.below(4);
+    let values = maker.rng.below(most_values + 1);
     let solution = if maker.rng.percent(80) {
         maker.rng.below(values + 1)
     } else {
@@ -297,7 +306,8 @@ pub fn log(rng: &mut Rng) -> Made {
                 literals += 1;
             }
             // The last one closes the assignment, and now and then an earlier one does.
-            if line + 1 == values && maker.rng.percent(90) || maker.rng.percent(5) {
+            let last = line + 1 == values && (maker.right || maker.rng.percent(90));
+            if last || !maker.right && maker.rng.percent(5) {
                 maker.zero();
                 maker.maybe_blanks(10);
             }
@@ -345,7 +355,7 @@ fn log_lines(maker: &mut Maker) {
             "s UNKNOWN",
             "v 7 0",
         ];
-        let line = if maker.rng.percent(85) {
+        let line = if maker.right || maker.rng.percent(85) {
             *maker.rng.pick(&known)
         } else {
             *maker.rng.pick(&unknown)
@@ -358,8 +368,16 @@ fn log_lines(maker: &mut Maker) {
 /// A text of any format.
 pub fn text(format: u8, rng: &mut Rng, most_clauses: usize) -> Made {
     match format {
-        0..=2 => clauses(format, rng, most_clauses),
-        _ => log(rng),
+        0..=2 => clauses(format, Maker::new(rng), most_clauses),
+        _ => log(Maker::new(rng), 3),
+    }
+}
+
+/// A text of any format with nothing wrong on purpose, of so many clauses or value lines at most.
+pub fn right(format: u8, rng: &mut Rng, most: usize) -> Made {
+    match format {
+        0..=2 => clauses(format, Maker::right(rng), most),
+        _ => log(Maker::right(rng), most),
     }
 }
 

@@ -1,6 +1,7 @@
 //! Writes framed cases to standard output. The same arguments always give the same bytes.
 
 mod damage;
+mod damaged;
 mod edges;
 mod exhaustive;
 mod frames;
@@ -15,6 +16,7 @@ use frames::Frames;
 const USAGE: &str = "\
 generate exhaustive FORMAT MODE LENGTH      all texts of up to LENGTH letters
 generate random SEED COUNT [FORMAT MODE]    COUNT made, damaged and mixed texts
+generate damaged SEED COUNT [FORMAT MODE]   COUNT texts, each damaged one to four times
 generate edges                              longest texts, large rooms, unknown numbers, a cut frame
 Formats: 0 plain, 1 weighted, 2 grouped, 3 log. Modes: 0 strict, 1 lenient.";
 
@@ -26,10 +28,17 @@ fn main() {
         ["exhaustive", format, mode, length] => {
             exhaustive::write(number(format), number(mode), number(length), &mut frames)
         }
-        ["random", seed, count] => random::write(number(seed), number(count), None, &mut frames),
-        ["random", seed, count, format, mode] => {
-            let of = Some((number(format), number(mode)));
-            random::write(number(seed), number(count), of, &mut frames)
+        [kind @ ("random" | "damaged"), seed, count, ref of @ ..] => {
+            let write = match kind {
+                "random" => random::write,
+                _ => damaged::write,
+            };
+            write(
+                number(seed),
+                number(count),
+                format_and_mode(of),
+                &mut frames,
+            )
         }
         ["edges"] => edges::write(&mut frames),
         _ => usage(),
@@ -37,6 +46,14 @@ fn main() {
     if let Err(error) = written.and_then(|()| frames.finish()) {
         eprintln!("generate: {error}");
         process::exit(1);
+    }
+}
+
+fn format_and_mode(arguments: &[&str]) -> Option<(u8, u8)> {
+    match arguments {
+        [] => None,
+        [format, mode] => Some((number(format), number(mode))),
+        _ => usage(),
     }
 }
 

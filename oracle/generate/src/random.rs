@@ -15,11 +15,7 @@ pub fn write(seed: u64, count: u64, of: Option<(u8, u8)>, frames: &mut Frames) -
     let rng = &mut Rng::new(seed);
     while frames.count() < count {
         let (format, mode) = of.unwrap_or_else(|| any(rng));
-        let written_as = if format < 4 {
-            format
-        } else {
-            rng.below(4) as u8
-        };
+        let written_as = known(format, rng);
         let (text, family) = match rng.below(100) {
             0..=39 => (made::text(written_as, rng, 3), None),
             40..=74 => {
@@ -46,8 +42,17 @@ pub fn write(seed: u64, count: u64, of: Option<(u8, u8)>, frames: &mut Frames) -
     Ok(())
 }
 
+/// The format, or any that is known.
+pub fn known(format: u8, rng: &mut Rng) -> u8 {
+    if format < 4 {
+        format
+    } else {
+        rng.below(4) as u8
+    }
+}
+
 /// A format and a mode, now and then unknown.
-fn any(rng: &mut Rng) -> (u8, u8) {
+pub fn any(rng: &mut Rng) -> (u8, u8) {
     match rng.below(1_000) {
         0 => (4 + rng.below(252) as u8, rng.below(256) as u8),
         1 => (rng.below(4) as u8, 2 + rng.below(254) as u8),
