@@ -27,7 +27,7 @@ pub fn ints(text: &[u8], at: usize, limit: u32, held: usize, lits: &mut [i32]) -
         count = lits.len();
     }
     loop {
-        match token::int(text, place, limit) {
+        match number::int(text, place, limit) {
             Int::Missing => {
                 return Row::Ends { place, count };
             }

@@ -1,10 +1,10 @@
--- `token::past_minus` meets its contract, case by case. Assumes nothing.
+-- `number::past_minus` meets its contract, case by case. Assumes nothing.
 use mathlib.Core.Path.{sym}
 use Rattle.dimacs.proofs.Lines.{no-byte}
 use Rattle.dimacs.proofs.Numbers.{minus-is, minus-no}
 use borrow.Author.Needs.{needs}
-use Rattle.token.proofs.past_minus.Statement.{statement}
-use Rattle.token.proofs.past_minus.Tie as tie
+use Rattle.number.proofs.past_minus.Statement.{statement}
+use Rattle.number.proofs.past_minus.Tie as tie
 
 shared-slice-read-if2 : tie.Need-shared-slice-read-if2
 shared-slice-read-if2 c = search needs

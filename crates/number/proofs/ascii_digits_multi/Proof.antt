@@ -1,14 +1,14 @@
--- `token::ascii_digits_multi` meets its contract: the digits up to i write v. Assumes nothing.
+-- `number::ascii_digits_multi` meets its contract: the digits up to i write v. Assumes nothing.
 use Prim.Native.Nat.{_+_, _-_, _*_, _≤_}
 use mathlib.Core.Logic.{⊎-elim}
 use lib.ListN.{length, getD}
 use Rattle.dimacs.specs.Names.{largest}
 use Rattle.dimacs.proofs.Numbers.{Read, read-none, read-more, read-above, read-low, read-high, read-end}
-use Rattle.token.proofs.Runs.{digits-value, digits-above}
+use Rattle.number.proofs.Runs.{digits-value, digits-above}
 use borrow.Author.Needs.{needs}
 use native.Mathlib.Omega.{arith}
-use Rattle.token.proofs.ascii_digits_multi.Statement.{statement}
-use Rattle.token.proofs.ascii_digits_multi.Tie as tie
+use Rattle.number.proofs.ascii_digits_multi.Statement.{statement}
+use Rattle.number.proofs.ascii_digits_multi.Tie as tie
 
 abbrev Inv-loop : tie.InvT-loop
 Inv-loop text at v₀ i₀ v i = Read text at i v × (v ≤ largest)

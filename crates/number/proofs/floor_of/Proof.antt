@@ -1,13 +1,13 @@
--- `token::floor_of` meets its contract: minus the smaller of the limit and the ceiling. Assumes nothing.
+-- `number::floor_of` meets its contract: minus the smaller of the limit and the ceiling. Assumes nothing.
 use Prim.Native.Nat.{ℕ, min}
 use mathlib.Core.Path.{_≡_, ap, sym, _∙_}
 use lib.IntN.{pos, negℤ}
 use Rattle.dimacs.specs.Names.{ceiling}
-use Rattle.token.proofs.Negated.{minus-fits, minus-back}
+use Rattle.number.proofs.Negated.{minus-fits, minus-back}
 use borrow.Author.Needs.{needs}
 use native.Mathlib.Omega.{arith}
-use Rattle.token.proofs.floor_of.Statement.{statement}
-use Rattle.token.proofs.floor_of.Tie as tie
+use Rattle.number.proofs.floor_of.Statement.{statement}
+use Rattle.number.proofs.floor_of.Tie as tie
 
 cast-result : tie.Need-cast-result
 cast-result c = search needs

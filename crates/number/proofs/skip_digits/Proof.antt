@@ -1,4 +1,4 @@
--- `token::skip_digits` meets its contract: what is past the digits from i is what is past them from the start. Assumes nothing.
+-- `number::skip_digits` meets its contract: what is past the digits from i is what is past them from the start. Assumes nothing.
 use Prim.Native.Nat.{_-_}
 use mathlib.Core.Path.{_≡_, refl, sym, _∙_}
 use lib.ListN.{length}
@@ -7,8 +7,8 @@ use Rattle.dimacs.specs.Tokens.{past}
 use Rattle.dimacs.proofs.Bytes.{is-digit, below-digit, above-digit}
 use Rattle.dimacs.proofs.Past.{past-more, past-stop, past-end}
 use native.Mathlib.Omega.{arith}
-use Rattle.token.proofs.skip_digits.Statement.{statement}
-use Rattle.token.proofs.skip_digits.Tie as tie
+use Rattle.number.proofs.skip_digits.Statement.{statement}
+use Rattle.number.proofs.skip_digits.Tie as tie
 
 abbrev Inv-loop : tie.InvT-loop
 Inv-loop text at i₀ i = past isDigit text i ≡ past isDigit text at

@@ -1,12 +1,12 @@
--- `token::int` meets its contract: each answer from the count past the minus. Assumes nothing.
+-- `number::int` meets its contract: each answer from the count past the minus. Assumes nothing.
 use Prim.Native.Nat.{min}
 use Rattle.dimacs.specs.Names.{ceiling}
 use Rattle.dimacs.proofs.Numbers.{uint-told, int-missing, int-too-big, int-zero, int-beyond, int-positive, int-negative}
-use Rattle.token.proofs.Negated.{sfits-pos, minus-fits, minus-back, again-fits, again-back, below-floor, above-floor}
+use Rattle.number.proofs.Negated.{sfits-pos, minus-fits, minus-back, again-fits, again-back, below-floor, above-floor}
 use borrow.Author.Needs.{needs}
 use native.Mathlib.Omega.{arith}
-use Rattle.token.proofs.int.Statement.{statement}
-use Rattle.token.proofs.int.Tie as tie
+use Rattle.number.proofs.int.Statement.{statement}
+use Rattle.number.proofs.int.Tie as tie
 
 past-minus-requires : tie.Need-past-minus-requires
 past-minus-requires c κs = search needs

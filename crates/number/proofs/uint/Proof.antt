@@ -1,12 +1,12 @@
--- `token::uint` meets its contract: each answer from what the digits tell. Assumes nothing.
+-- `number::uint` meets its contract: each answer from what the digits tell. Assumes nothing.
 use mathlib.Core.Path.{sym, _∙_}
 use Rattle.dimacs.specs.Tokens.{uintAt}
 use Rattle.dimacs.proofs.Numbers.{unsigned-none, unsigned-joined, unsigned-found, by-none, by-value, by-too-big}
-use Rattle.token.proofs.Runs.{told, above-stands}
+use Rattle.number.proofs.Runs.{told, above-stands}
 use borrow.Author.Needs.{needs}
 use native.Mathlib.Omega.{arith}
-use Rattle.token.proofs.uint.Statement.{statement}
-use Rattle.token.proofs.uint.Tie as tie
+use Rattle.number.proofs.uint.Statement.{statement}
+use Rattle.number.proofs.uint.Tie as tie
 
 ascii-digits-multi-requires : tie.Need-ascii-digits-multi-requires
 ascii-digits-multi-requires c κs = search needs

@@ -1,0 +1,178 @@
+// Numbers: what a run of digits at a place of a lent text writes, and whether it is within a limit. Any bytes and any place are taken, also a place past the text's end.
+// The names are those of token.rs.
+ghost use mathlib.Core.Path.{_≡_};
+ghost use Rattle.dimacs.specs.Tokens.{past, uintAt, bracedUintAt, minus, intAt};
+ghost use Rattle.dimacs.specs.Bytes.{isDigit};
+ghost use Rattle.number.specs.Parts.{digitsOf, floorOf};
+use dimacs::CEILING;
+use dimacs::Int;
+use dimacs::Uint;
+
+// What a run of digits writes, and where it ends.
+pub enum Digits {
+    Value { value: u64, end: usize },
+    // It is above 64 bits.
+    Above { end: usize },
+}
+
+// Past the run of digits.
+fn skip_digits(text: &[u8], at: usize) -> usize
+    ensures { λ r. ⌜ r ≡ past isDigit (now (text .entry)) at ⌝ }
+{
+    let mut i = at;
+    while i < text.len() {
+        let b = text[i];
+        if b < b'0' {
+            return i;
+        }
+        if b'9' < b {
+            return i;
+        }
+        i += 1;
+    }
+    i
+}
+
+// The run of digits at a place, which may be empty. A value that can overflow with one digit more is looked at closely.
+fn ascii_digits_multi(text: &[u8], at: usize) -> Digits
+    ensures { λ r. ⌜ r ≡ digitsOf (now (text .entry)) at ⌝ }
+{
+    let mut v: u64 = 0;
+    let mut i = at;
+    while i < text.len() {
+        let b = text[i];
+        if b < b'0' {
+            return Digits::Value { value: v, end: i };
+        }
+        if b'9' < b {
+            return Digits::Value { value: v, end: i };
+        }
+        let d = (b - b'0') as u64;
+        if 1844674407370955161 <= v {
+            if 1844674407370955161 < v {
+                return Digits::Above {
+                    end: skip_digits(text, i),
+                };
+            }
+            if 5 < d {
+                return Digits::Above {
+                    end: skip_digits(text, i),
+                };
+            }
+        }
+        v = v * 10 + d;
+        i += 1;
+    }
+    Digits::Value { value: v, end: i }
+}
+
+// A count or a weight, up to a limit.
+pub fn uint(text: &[u8], at: usize, limit: u64) -> Uint
+    ensures { λ r. ⌜ r ≡ uintAt (now (text .entry)) limit at ⌝ }
+{
+    match ascii_digits_multi(text, at) {
+        Digits::Value { value, end } => {
+            if end == at {
+                return Uint::Missing;
+            }
+            if token::is_end_of_word(text, end) {
+                if limit < value {
+                    return Uint::TooBig;
+                }
+                return Uint::Value(value, token::skip_whitespace(text, end));
+            }
+            Uint::Missing
+        }
+        Digits::Above { end } => {
+            if token::is_end_of_word(text, end) {
+                return Uint::TooBig;
+            }
+            Uint::Missing
+        }
+    }
+}
+
+// A group in braces, up to a limit.
+pub fn braced_uint(text: &[u8], at: usize, limit: u64) -> Uint
+    ensures { λ r. ⌜ r ≡ bracedUintAt (now (text .entry)) limit at ⌝ }
+{
+    if text.len() <= at {
+        return Uint::Missing;
+    }
+    if text[at] != b'{' {
+        return Uint::Missing;
+    }
+    let from = at + 1;
+    match ascii_digits_multi(text, from) {
+        Digits::Value { value, end } => {
+            if end == from {
+                return Uint::Missing;
+            }
+            if end < text.len() {
+                if text[end] == b'}' {
+                    if value > limit {
+                        return Uint::TooBig;
+                    }
+                    return Uint::Value(value, token::skip_whitespace(text, end + 1));
+                }
+            }
+            Uint::Missing
+        }
+        Digits::Above { end } => {
+            if end < text.len() {
+                if text[end] == b'}' {
+                    return Uint::TooBig;
+                }
+            }
+            Uint::Missing
+        }
+    }
+}
+
+// Minus a limit, which counts as the ceiling where it is above.
+fn floor_of(limit: u32) -> i32
+    ensures { λ r. ⌜ r ≡ floorOf limit ⌝ }
+{
+    if CEILING < limit {
+        return 0 - (CEILING as i32);
+    }
+    0 - (limit as i32)
+}
+
+// Past one minus.
+fn past_minus(text: &[u8], at: usize) -> usize
+    ensures { λ r. ⌜ r ≡ minus (now (text .entry)) at ⌝ }
+{
+    if at < text.len() {
+        if text[at] == b'-' {
+            return at + 1;
+        }
+    }
+    at
+}
+
+// A literal, or the 0 that closes them, up to a limit either way. It is read by negation, compared with minus the limit, and written
+// back with its sign.
+pub fn int(text: &[u8], at: usize, limit: u32) -> Int
+    ensures { λ r. ⌜ r ≡ intAt (now (text .entry)) limit at ⌝ }
+{
+    let from = past_minus(text, at);
+    match uint(text, from, CEILING as u64) {
+        Uint::Missing => Int::Missing,
+        Uint::TooBig => Int::TooBig,
+        Uint::Value(n, next) => {
+            if n == 0 {
+                return Int::Zero(next);
+            }
+            let v = 0 - (n as i32);
+            let floor = floor_of(limit);
+            if v < floor {
+                return Int::TooBig;
+            }
+            if from == at {
+                return Int::Literal(0 - v, next);
+            }
+            Int::Literal(v, next)
+        }
+    }
+}
