@@ -1,12 +1,18 @@
 // Numbers: what a run of digits at a place of a lent text writes, and whether it is within a limit. Any bytes and any place are taken, also a place past the text's end.
 // The names are those of token.rs.
 ghost use mathlib.Core.Path.{_≡_};
-ghost use Rattle.dimacs.specs.Tokens.{past, uintAt, bracedUintAt, minus, intAt};
+ghost use Prim.Native.Nat.{_≤_, _+_, _*_};
+ghost use lib.Dec.{ltb};
+ghost use Rattle.dimacs.specs.Names.{largest};
 ghost use Rattle.dimacs.specs.Bytes.{isDigit};
+ghost use Rattle.dimacs.specs.Tokens.{past, uintAt, bracedUintAt, minus, intAt};
 ghost use Rattle.number.specs.Parts.{digitsOf, floorOf};
 use dimacs::CEILING;
 use dimacs::Int;
 use dimacs::Uint;
+
+// A tenth of the largest 64-bit number. A value below it takes any digit more; the value itself takes 5.
+const TENTH: u64 = 1844674407370955161;
 
 // What a run of digits writes, and where it ends.
 pub enum Digits {
@@ -33,7 +39,21 @@ fn skip_digits(text: &[u8], at: usize) -> usize
     i
 }
 
-// The run of digits at a place, which may be empty. A value that can overflow with one digit more is looked at closely.
+// Whether a value with one digit more is above 64 bits.
+fn overflows(v: u64, d: u64) -> bool
+    requires { ⌜ d ≤ 9 ⌝ }
+    ensures { λ r. ⌜ r ≡ ltb largest (v * 10 + d) ⌝ }
+{
+    if v < TENTH {
+        return false;
+    }
+    if TENTH < v {
+        return true;
+    }
+    5 < d
+}
+
+// The run of digits at a place, which may be empty.
 fn ascii_digits_multi(text: &[u8], at: usize) -> Digits
     ensures { λ r. ⌜ r ≡ digitsOf (now (text .entry)) at ⌝ }
 {
@@ -48,17 +68,10 @@ fn ascii_digits_multi(text: &[u8], at: usize) -> Digits
             return Digits::Value { value: v, end: i };
         }
         let d = (b - b'0') as u64;
-        if 1844674407370955161 <= v {
-            if 1844674407370955161 < v {
-                return Digits::Above {
-                    end: skip_digits(text, i),
-                };
-            }
-            if 5 < d {
-                return Digits::Above {
-                    end: skip_digits(text, i),
-                };
-            }
+        if overflows(v, d) {
+            return Digits::Above {
+                end: skip_digits(text, i),
+            };
         }
         v = v * 10 + d;
         i += 1;
@@ -169,10 +182,11 @@ pub fn int(text: &[u8], at: usize, limit: u32) -> Int
             if v < floor {
                 return Int::TooBig;
             }
+            let mut w = v;
             if from == at {
-                return Int::Literal(0 - v, next);
+                w = 0 - v;
             }
-            Int::Literal(v, next)
+            Int::Literal(w, next)
         }
     }
 }

@@ -2,6 +2,7 @@
 // A function answers the place past the token, or the place itself where there is none. The names are those of token.rs.
 ghost use mathlib.Core.Path.{_≡_};
 ghost use Rattle.dimacs.specs.Tokens.{atEnd, blanks, lineEnd, nextLine, endOfLine, fixed, wordEnds, word, comment, strictComment, newline, lines, linebreaks};
+ghost use Rattle.token.specs.Parts.{linePast};
 use dimacs::EndOfLine;
 
 // Whether the text has ended.
@@ -156,22 +157,30 @@ pub fn interactive_strict_comment(text: &[u8], at: usize) -> usize
     interactive_skip_line(text, body)
 }
 
+// Past a comment or a line end, without the blanks after it.
+fn line_past(text: &[u8], at: usize) -> usize
+    ensures { λ r. ⌜ r ≡ linePast (now (text .entry)) at ⌝ }
+{
+    if at < text.len() {
+        let b = text[at];
+        if b == b'c' {
+            return interactive_skip_line(text, at + 1);
+        }
+    }
+    interactive_newline(text, at)
+}
+
 // Past as many comments and line ends as there are.
 pub fn comments_and_newlines(text: &[u8], at: usize) -> usize
     ensures { λ r. ⌜ r ≡ lines (now (text .entry)) at ⌝ }
 {
     let mut i = at;
     loop {
-        let a = comment(text, i);
+        let a = line_past(text, i);
         if a == i {
-            let b = newline(text, i);
-            if b == i {
-                return i;
-            }
-            i = b;
-        } else {
-            i = a;
+            return i;
         }
+        i = skip_whitespace(text, a);
     }
 }
 

@@ -1,11 +1,12 @@
 -- `number::ascii_digits_multi` meets its contract: the digits up to i write v. Assumes nothing.
 use Prim.Native.Nat.{_+_, _-_, _*_, _≤_}
-use mathlib.Core.Logic.{⊎-elim}
+use mathlib.Core.Path.{sym, _∙_}
 use lib.ListN.{length, getD}
 use Rattle.dimacs.specs.Names.{largest}
 use Rattle.dimacs.proofs.Numbers.{Read, read-none, read-more, read-above, read-low, read-high, read-end}
 use Rattle.number.proofs.Runs.{digits-value, digits-above}
 use borrow.Author.Needs.{needs}
+use borrow.Author.Tests.{ltb-true, ltb-false}
 use native.Mathlib.Omega.{arith}
 use Rattle.number.proofs.ascii_digits_multi.Statement.{statement}
 use Rattle.number.proofs.ascii_digits_multi.Tie as tie
@@ -17,10 +18,10 @@ abbrev μ-loop : tie.MeasureT-loop
 μ-loop text at v₀ i₀ v i = length text - i
 
 -- One digit more fits.
-fits : (c : tie.Joined3 Inv-loop μ-loop) →
-    c .before .before .before .before .before .loop .v * 10
-    + (getD (c .before .before .before .before .before .before .before .args .text .now) (c .before .before .before .before .before .loop .i) 0 - 48) ≤ largest
-fits c = ⊎-elim (λ w. omega arith) (λ w. omega arith) (c .if3 .came)
+fits : (c : tie.Else3 Inv-loop μ-loop) →
+    c .before .before .before .before .before .before .loop .v * 10
+    + (getD (c .before .before .before .before .before .before .before .before .args .text .now) (c .before .before .before .before .before .before .loop .i) 0 - 48) ≤ largest
+fits c = ltb-false largest _ (sym (c .before .overflows .ensures) ∙ c .if3 .left)
 
 loop-holds : tie.Need-loop-holds Inv-loop μ-loop
 loop-holds c = (read-none _ _, omega arith)
@@ -39,21 +40,16 @@ returns-2 c = let l = c .before .before .before in
 cast-d : tie.Need-cast-d Inv-loop μ-loop
 cast-d c = omega arith
 
+overflows-requires : tie.Need-overflows-requires Inv-loop μ-loop
+overflows-requires c κs = omega arith
+
 skip-digits-requires : tie.Need-skip-digits-requires Inv-loop μ-loop
 skip-digits-requires c κs = search needs
 
 returns-3 : tie.Need-returns-3 Inv-loop μ-loop
 returns-3 c = let e = c .before .before .before in
     let l = e .before .before .before in
-    digits-above (read-above (l .before .loop .inv .0) (l .loop-test .taken) (e .before .if1 .left) (e .if2 .left) largest (omega arith)) _ (c .skip-digits .ensures)
-
-skip-digits-requires-2 : tie.Need-skip-digits-requires-2 Inv-loop μ-loop
-skip-digits-requires-2 c κs = search needs
-
-returns-4 : tie.Need-returns-4 Inv-loop μ-loop
-returns-4 c = let e = c .before .before .before .before in
-    let l = e .before .before .before in
-    digits-above (read-above (l .before .loop .inv .0) (l .loop-test .taken) (e .before .if1 .left) (e .if2 .left) largest (omega arith)) _ (c .skip-digits2 .ensures)
+    digits-above (read-above (l .before .loop .inv .0) (l .loop-test .taken) (e .before .if1 .left) (e .if2 .left) largest (ltb-true largest _ (sym (c .before .before .overflows .ensures) ∙ c .before .if3 .taken))) _ (c .skip-digits .ensures)
 
 mul-v : tie.Need-mul-v Inv-loop μ-loop
 mul-v c = omega (arith, fits c)
@@ -68,11 +64,12 @@ loop-less : tie.Need-loop-less Inv-loop μ-loop
 loop-less c = omega arith
 
 loop-again : tie.Need-loop-again Inv-loop μ-loop
-loop-again c = let l = c .before .before .before .before in
-    (read-more (l .before .loop .inv .0) (l .loop-test .taken) (c .before .before .if1 .left) (c .before .if2 .left), fits c)
+loop-again c = let e = c .before .before in
+    let l = e .before .before .before in
+    (read-more (l .before .loop .inv .0) (l .loop-test .taken) (e .before .if1 .left) (e .if2 .left), fits c)
 
-returns-5 : tie.Need-returns-5 Inv-loop μ-loop
-returns-5 c = digits-value (read-end (c .before .loop .inv .0) (c .loop-test .left)) (c .before .loop .inv .1)
+returns-4 : tie.Need-returns-4 Inv-loop μ-loop
+returns-4 c = digits-value (read-end (c .before .loop .inv .0) (c .loop-test .left)) (c .before .loop .inv .1)
 
 pub ascii-digits-multi-spec : {M : Type 1} → statement M
 ascii-digits-multi-spec =
@@ -85,13 +82,12 @@ ascii-digits-multi-spec =
     returns
     returns-2
     cast-d
+    overflows-requires
     skip-digits-requires
     returns-3
-    skip-digits-requires-2
-    returns-4
     mul-v
     add-v
     add-i
     loop-less
     loop-again
-    returns-5)
+    returns-4)

@@ -43,20 +43,20 @@ returns-2 c = let t = uint-told _ _ _ (c .before .before .before .before .n .giv
     int-beyond _ _ _ _ (c .before .before .before .before .before .before .before .past-minus .ensures) t (c .before .before .if1 .left)
     (below-floor _ (t .1) (min (c .before .before .before .before .before .before .before .before .before .args .limit) ceiling) (omega arith) _ (c .before .floor-of .ensures) (c .if2 .taken))
 
-sub-t14 : tie.Need-sub-t14
-sub-t14 c = again-fits _ (uint-told _ _ _ (c .before .before .before .before .before .n .given .1) (c .before .before .before .before .before .before .before .uint .ensures) .1)
+sub-w : tie.Need-sub-w
+sub-w c = again-fits _ (uint-told _ _ _ (c .before .before .before .before .before .n .given .1) (c .before .before .before .before .before .before .before .uint .ensures) .1)
 
 returns-3 : tie.Need-returns-3
-returns-3 c = let t = uint-told _ _ _ (c .before .before .before .before .before .n .given .1) (c .before .before .before .before .before .before .before .uint .ensures) in
+returns-3 c = int-missing _ _ _ _ (c .before .before .before .past-minus .ensures) (uint-told _ _ _ (c .enum-told .given .1) (c .before .before .uint .ensures))
+
+returns-4 : tie.Need-returns-4
+returns-4 c = int-too-big _ _ _ _ (c .before .before .before .past-minus .ensures) (uint-told _ _ _ (c .enum-told2 .given .1) (c .before .before .uint .ensures))
+
+returns-5 : tie.Need-returns-5
+returns-5 c = let t = uint-told _ _ _ (c .before .before .before .before .before .n .given .1) (c .before .before .before .before .before .before .before .uint .ensures) in
     int-positive _ _ _ _ (c .before .before .before .before .before .before .before .before .past-minus .ensures) t (c .before .before .before .if1 .left)
     (above-floor _ (t .1) (min (c .before .before .before .before .before .before .before .before .before .before .args .limit) ceiling) (omega arith) _ (c .before .before .floor-of .ensures) (c .before .if2 .left))
     (c .if3 .taken) _ (again-back _ (t .1))
-
-returns-4 : tie.Need-returns-4
-returns-4 c = int-missing _ _ _ _ (c .before .before .before .past-minus .ensures) (uint-told _ _ _ (c .enum-told .given .1) (c .before .before .uint .ensures))
-
-returns-5 : tie.Need-returns-5
-returns-5 c = int-too-big _ _ _ _ (c .before .before .before .past-minus .ensures) (uint-told _ _ _ (c .enum-told2 .given .1) (c .before .before .uint .ensures))
 
 returns-6 : tie.Need-returns-6
 returns-6 c = let t = uint-told _ _ _ (c .before .before .before .before .before .n .given .1) (c .before .before .before .before .before .before .before .uint .ensures) in
@@ -79,7 +79,7 @@ int-spec =
     sub-v
     floor-of-requires
     returns-2
-    sub-t14
+    sub-w
     returns-3
     returns-4
     returns-5

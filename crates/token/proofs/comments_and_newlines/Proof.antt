@@ -3,7 +3,7 @@ use Prim.Native.Nat.{_-_}
 use mathlib.Core.Path.{_≡_, refl, sym, _∙_}
 use lib.ListN.{length}
 use Rattle.dimacs.specs.Tokens.{lines}
-use Rattle.dimacs.proofs.Lines.{lines-comment, lines-newline, lines-stop}
+use Rattle.token.proofs.Parts.{lines-end, lines-on}
 use borrow.Author.Needs.{needs}
 use Rattle.token.proofs.comments_and_newlines.Statement.{statement}
 use Rattle.token.proofs.comments_and_newlines.Tie as tie
@@ -17,28 +17,20 @@ abbrev μ-loop : tie.MeasureT-loop
 loop-holds : tie.Need-loop-holds Inv-loop μ-loop
 loop-holds c = refl
 
-comment-requires : tie.Need-comment-requires Inv-loop μ-loop
-comment-requires c κs = search needs
-
-newline-requires : tie.Need-newline-requires Inv-loop μ-loop
-newline-requires c κs = search needs
+line-past-requires : tie.Need-line-past-requires Inv-loop μ-loop
+line-past-requires c κs = search needs
 
 returns : tie.Need-returns Inv-loop μ-loop
-returns c = sym (lines-stop _ _ _ (c .before .before .before .comment .ensures) (c .before .before .if1 .taken) _ (c .before .newline .ensures) (c .if2 .taken))
-    ∙ c .before .before .before .before .loop .inv
+returns c = sym (lines-end _ _ _ (c .before .line-past .ensures) (c .if1 .taken)) ∙ c .before .before .loop .inv
+
+skip-whitespace-requires : tie.Need-skip-whitespace-requires Inv-loop μ-loop
+skip-whitespace-requires c κs = search needs
 
 loop-less : tie.Need-loop-less Inv-loop μ-loop
-loop-less c = lines-newline _ _ _ (c .before .before .before .comment .ensures) (c .before .before .if1 .taken) _ (c .before .newline .ensures) (c .if2 .left) .0
+loop-less c = lines-on _ _ _ (c .before .before .line-past .ensures) (c .before .if1 .left) _ (c .skip-whitespace .ensures) .0
 
 loop-again : tie.Need-loop-again Inv-loop μ-loop
-loop-again c = lines-newline _ _ _ (c .before .before .before .comment .ensures) (c .before .before .if1 .taken) _ (c .before .newline .ensures) (c .if2 .left) .1
-    ∙ c .before .before .before .before .loop .inv
-
-loop-less-2 : tie.Need-loop-less-2 Inv-loop μ-loop
-loop-less-2 c = lines-comment _ _ _ (c .before .comment .ensures) (c .if1 .left) .0
-
-loop-again-2 : tie.Need-loop-again-2 Inv-loop μ-loop
-loop-again-2 c = lines-comment _ _ _ (c .before .comment .ensures) (c .if1 .left) .1 ∙ c .before .before .loop .inv
+loop-again c = lines-on _ _ _ (c .before .before .line-past .ensures) (c .before .if1 .left) _ (c .skip-whitespace .ensures) .1 ∙ c .before .before .before .loop .inv
 
 pub comments-and-newlines-spec : {M : Type 1} → statement M
 comments-and-newlines-spec =
@@ -47,10 +39,8 @@ comments-and-newlines-spec =
     Inv-loop
     μ-loop
     loop-holds
-    comment-requires
-    newline-requires
+    line-past-requires
     returns
+    skip-whitespace-requires
     loop-less
-    loop-again
-    loop-less-2
-    loop-again-2)
+    loop-again)

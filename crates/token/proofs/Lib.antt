@@ -1,0 +1,2 @@
+-- Laws about the parts of lines, which several proofs cite.
+pub mod Parts
