@@ -11,7 +11,7 @@ use Rattle.dimacs.specs.Clauses as def
 use Rattle.dimacs.specs.declared.Limits.{Limits}
 use Rattle.dimacs.specs.declared.EndOfLine.the-variants as end
 use Rattle.dimacs.proofs.Tests.{chosen}
-use Rattle.clause.specs.Answers.{literalsOf, readOf, Reads, answeredOf, refusedOf, leftBy, Unread, Answers}
+use Rattle.clause.specs.Answers.{literalsOf, readOf, Reads, answeredOf, refusedOf, leftBy, Answers}
 use Rattle.clause.specs.declared.Literals.{Literals}
 use Rattle.clause.specs.declared.Literals.the-variants.{Nothing, Closed, Stopped}
 use Rattle.clause.specs.declared.Next.the-variants as next
@@ -21,40 +21,33 @@ use Rattle.clause.specs.declared.Answered.{Answered}
 pub one-answer : {d : def.Answered} {old n₁ n₂ : List ℤ} {r₁ r₂ : Answered} → Answers d old n₁ r₁ → Answers d old n₂ r₂ → (r₁ ≡ r₂) × (n₁ ≡ n₂)
 one-answer p q = (p .answer ∙ sym (q .answer), p .buffer ∙ sym (q .buffer))
 
-module _ (s : List ℕ) (limits : Limits) (extra at : ℕ) (old new : List ℤ) (d : def.Answered) where
-  -- The answer that a clause's literals lead to.
+-- Where no number stands, no literal is read.
+absent-unread : (s : List ℕ) (why : Reason) (permitted : Bool) (at : ℕ) → leftBy (def.absent s why permitted at .answer) ≡ []
+unfolding def.absent
+absent-unread s why permitted at = chosen (λ (a : def.Answered). leftBy (a .answer) ≡ []) (permitted && atEnd s at) (λ _. refl) (λ _. refl)
+
+module _ (s : List ℕ) (limits : Limits) (extra at : ℕ) (old new : List ℤ) (why : Reason) (permitted : Bool) where
+  -- What literals lead to.
   abbrev Leads : Literals → Type 0
-  Leads Nothing = (r : Answered) → Unread d r → Answers (def.body s limits (length old) extra d at) old new r
+  Leads Nothing = (r : Answered) → r ≡ answeredOf (def.absent s why permitted at) → Answers (def.body s limits (length old) extra why permitted at) old new r
   Leads (Closed n p) =
-      ((r : Answered) → endOfLine s p ≡ end.Missing → r ≡ refusedOf s 5 p n → Answers (def.body s limits (length old) extra d at) old new r)
-      × ((q : ℕ) → endOfLine s p ≡ end.Past q → Answers (def.body s limits (length old) extra d at) old new (record { answer = next.Clause extra n; place = q }))
-  Leads (Stopped r n) = Answers (def.body s limits (length old) extra d at) old new (record { answer = next.Refused r n; place = r .place })
+      ((r : Answered) → endOfLine s p ≡ end.Missing → r ≡ refusedOf s 5 p n → Answers (def.body s limits (length old) extra why permitted at) old new r)
+      × ((q : ℕ) → endOfLine s p ≡ end.Past q → Answers (def.body s limits (length old) extra why permitted at) old new (record { answer = next.Clause extra n; place = q }))
+  Leads (Stopped r n) = Answers (def.body s limits (length old) extra why permitted at) old new (record { answer = next.Refused r n; place = r .place })
 
   pub body-leads : {l m : Literals} → Reads s (limits .literals) at old new l → l ≡ m → Leads m
   unfolding def.body
   body-leads h e = subst Leads (sym (h .answer) ∙ e) (go (def.literals s (limits .literals) (length old) at) refl (h .buffer))
     where
       go : (x : def.Literals) → def.literals s (limits .literals) (length old) at ≡ x → new ≡ def.laid (readOf x) old → Leads (literalsOf x)
-      go def.nothing e b = λ r u. rw e (record { answer = u .answer; buffer = rw (u .none) b })
+      go def.nothing e b = λ r is. rw e (record { answer = is; buffer = rw (absent-unread s why permitted at) b })
       go (def.closed so p) e b = (λ r k is. rw (e, k) (record { answer = is; buffer = b }), λ q k. rw (e, k) (record { answer = refl; buffer = b }))
       go (def.stopped x so) e b = rw e (record { answer = refl; buffer = b })
 
--- By a refusal with no literals, nothing is read.
-pub refused-unread : (s : List ℕ) (why : Reason) (at : ℕ) {r : Answered} → r ≡ answeredOf (def.refuses s why at []) → Unread (def.refuses s why at []) r
-refused-unread s why at e = record { answer = e; none = refl }
-
--- Nor by the end, or refusal 9 in its place.
-pub no-clause-unread : (s : List ℕ) (permitted : Bool) (at : ℕ) {r : Answered} → r ≡ answeredOf (def.noClause s permitted at) → Unread (def.noClause s permitted at) r
-unfolding def.noClause
-no-clause-unread s permitted at e =
-    record { answer = e; none = chosen (λ (a : def.Answered). leftBy (a .answer) ≡ []) (permitted && atEnd s at) (λ _. refl) (λ _. refl) }
-
--- So the buffer is left as it came.
-unread : {d : def.Answered} {r : Answered} (old : List ℤ) → Unread d r → Answers d old old r
-unread old u = record { answer = u .answer; buffer = rw (u .none) }
-
+-- A refusal with no literals leaves the buffer.
 pub refused-at : (s : List ℕ) (why : Reason) (at : ℕ) (old : List ℤ) {r : Answered} → r ≡ answeredOf (def.refuses s why at []) → Answers (def.refuses s why at []) old old r
-refused-at s why at old e = unread old (refused-unread s why at e)
+refused-at s why at old e = record { answer = e; buffer = refl }
 
+-- So does the end, or refusal 9 in its place.
 pub no-clause-at : (s : List ℕ) (permitted : Bool) (at : ℕ) (old : List ℤ) {r : Answered} → r ≡ answeredOf (def.noClause s permitted at) → Answers (def.noClause s permitted at) old old r
-no-clause-at s permitted at old e = unread old (no-clause-unread s permitted at e)
+no-clause-at s permitted at old e = record { answer = e; buffer = rw (absent-unread s Reason.clauseExpected permitted at) }

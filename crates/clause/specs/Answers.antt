@@ -49,11 +49,6 @@ answeredOf d = record { answer = nextOf (d .answer); place = d .place }
 abbrev pub refusedOf : List ℕ → ℕ → ℕ → ℕ → Answered
 refusedOf s number at count = record { answer = next.Refused (numbered s number at) count; place = at }
 
--- An answer of the definition by which no literal is read, and the code's answer for it.
-pub record Unread (d : def.Answered) (r : Answered) : Type 0 where
-  pub answer : r ≡ answeredOf d
-  pub none : leftBy (d .answer) ≡ []
-
 -- An answer of the definition is given: the answer, and the buffer after it.
 pub record Answers (d : def.Answered) (old new : List ℤ) (r : Answered) : Type 0 where
   pub answer : r ≡ answeredOf d

@@ -1,9 +1,9 @@
 // A clause of each format, read into a lent buffer of literals.
 ghost use mathlib.Core.Path.{_≡_};
 ghost use lib.ListN.{length};
-ghost use Rattle.dimacs.specs.Clauses as def;
-ghost use Rattle.dimacs.specs.Clauses.{noClause, body, owed, plainAt, weightedAt, groupedAt, clauseAt};
-ghost use Rattle.clause.specs.Answers.{answeredOf, refusedOf, Unread, Reads, Answers};
+ghost use Rattle.dimacs.specs.Names.{Reason, numberOf};
+ghost use Rattle.dimacs.specs.Clauses.{absent, noClause, body, owed, plainAt, weightedAt, groupedAt, clauseAt};
+ghost use Rattle.clause.specs.Answers.{answeredOf, refusedOf, Reads, Answers};
 use dimacs::CLAUSE_EXPECTED;
 use dimacs::EndOfLine;
 use dimacs::Format;
@@ -94,19 +94,33 @@ fn refused(text: &[u8], number: u8, place: usize, count: usize) -> Answered
     }
 }
 
-// The literals of a clause with its 0, and what closes its line; or another answer, by which nothing is read, where no number stands.
+// Where no number stands: the end of the text if it is permitted, else a refusal by its number.
+fn absent(text: &[u8], number: u8, at: usize, permitted: bool) -> Answered
+    ensures { λ r. ⌜ ((why : Reason) → number ≡ numberOf why → r ≡ answeredOf (absent (now (text .entry)) why permitted at)) ⌝ }
+{
+    if permitted && token::eof(text, at) {
+        return Answered {
+            answer: Next::Ended,
+            place: at,
+        };
+    }
+    refused(text, number, at, 0)
+}
+
+// The literals of a clause with its 0, and what closes its line; or what is said where no number stands.
 fn clause_body(
     text: &[u8],
     at: usize,
     limits: Limits,
     extra: u64,
-    otherwise: Answered,
+    number: u8,
+    permitted: bool,
     lits: &mut [i32],
 ) -> Answered
-    ensures { λ r. ⌜ ((d : def.Answered) → Unread d otherwise → Answers (body (now (text .entry)) limits (length (now (lits .entry))) extra d at) (now (lits .entry)) (now (lits .exit)) r) ⌝ }
+    ensures { λ r. ⌜ ((why : Reason) → number ≡ numberOf why → Answers (body (now (text .entry)) limits (length (now (lits .entry))) extra why permitted at) (now (lits .entry)) (now (lits .exit)) r) ⌝ }
 {
     match clause_lits(text, at, limits.literals, lits) {
-        Literals::Nothing => otherwise,
+        Literals::Nothing => absent(text, number, at, permitted),
         Literals::Closed { count, next } => match token::interactive_end_of_line(text, next) {
             EndOfLine::Missing => refused(text, LINE_END_EXPECTED, next, count),
             EndOfLine::Past(place) => Answered {
@@ -125,13 +139,7 @@ fn clause_body(
 pub fn no_clause(text: &[u8], at: usize, permitted: bool) -> Answered
     ensures { λ r. ⌜ r ≡ answeredOf (noClause (now (text .entry)) permitted at) ⌝ }
 {
-    if permitted && token::eof(text, at) {
-        return Answered {
-            answer: Next::Ended,
-            place: at,
-        };
-    }
-    refused(text, CLAUSE_EXPECTED, at, 0)
+    absent(text, CLAUSE_EXPECTED, at, permitted)
 }
 
 // The literals owed after a weight or group.
@@ -139,15 +147,13 @@ fn clause_owed(text: &[u8], at: usize, limits: Limits, extra: u64, lits: &mut [i
     ensures { λ r. ⌜ Answers (owed (now (text .entry)) limits (length (now (lits .entry))) extra at) (now (lits .entry)) (now (lits .exit)) r ⌝ }
 {
     let place = token::non_terminating_linebreaks(text, at);
-    let otherwise = refused(text, LITERALS_EXPECTED, place, 0);
-    clause_body(text, place, limits, extra, otherwise, lits)
+    clause_body(text, place, limits, extra, LITERALS_EXPECTED, false, lits)
 }
 
 fn plain_at(text: &[u8], at: usize, limits: Limits, permitted: bool, lits: &mut [i32]) -> Answered
     ensures { λ r. ⌜ Answers (plainAt (now (text .entry)) limits (length (now (lits .entry))) permitted at) (now (lits .entry)) (now (lits .exit)) r ⌝ }
 {
-    let otherwise = no_clause(text, at, permitted);
-    clause_body(text, at, limits, 0, otherwise, lits)
+    clause_body(text, at, limits, 0, CLAUSE_EXPECTED, permitted, lits)
 }
 
 fn weighted_at(

@@ -12,7 +12,7 @@ use Rattle.dimacs.specs.Loop.{Step, again, answer}
 use Rattle.dimacs.specs.Names.{Reason, numbered, refusal, largest}
 use Rattle.dimacs.specs.Tokens.{unmoved, atEnd, linebreaks, uintAt, bracedUintAt, endOfLine, lineEnds}
 use Rattle.dimacs.specs.Rows.{Row, ends, closes, stops, readBy, Reading, reads, row}
-use Rattle.dimacs.specs.Clauses.{Literals, nothing, closed, stopped, onRow, nextRow, literalsFrom, literals, Answer, clause, ended, refused, Answered, says, refuses, clauseOf, noClause, body, owed, marked, plainAt, weightedAt, groupedAt, clauseAt}
+use Rattle.dimacs.specs.Clauses.{Literals, nothing, closed, stopped, onRow, nextRow, literalsFrom, literals, Answer, clause, ended, refused, Answered, says, refuses, clauseOf, absent, body, owed, marked, plainAt, weightedAt, groupedAt, clauseAt}
 use Rattle.dimacs.specs.declared.Format.{Format}
 use Rattle.dimacs.specs.declared.Limits.{Limits}
 use Rattle.dimacs.specs.declared.Format.the-variants.{Plain, Weighted, Grouped}
@@ -147,34 +147,35 @@ module _ (s : List ℕ) where
       go (end.Past n) c = omega arith
   clause-of-onward extra at d k (stopped r so) m = omega arith
 
-  pub no-clause-onward : (endPermitted : Bool) (at : ℕ) → Onward s at (noClause s endPermitted at)
-  unfolding noClause
-  no-clause-onward endPermitted at =
+  pub absent-onward : (why : Reason) (endPermitted : Bool) (at : ℕ) → Onward s at (absent s why endPermitted at)
+  unfolding absent
+  absent-onward why endPermitted at =
       chosen (Onward s at) (endPermitted && atEnd s at)
       (λ e. let l = leb-true (length s) at (both-right endPermitted (atEnd s at) e) in omega arith)
-      (λ _. refuses-onward Reason.clauseExpected at [])
+      (λ _. refuses-onward why at [])
 
 module _ (s : List ℕ) (limits : Limits) (room : ℕ) where
-  body-onward : (extra at : ℕ) (d : Answered) → Onward s at d → Onward s at (body s limits room extra d at)
+  body-onward : (extra : ℕ) (why : Reason) (endPermitted : Bool) (at : ℕ) → Onward s at (body s limits room extra why endPermitted at)
   unfolding body
-  body-onward extra at d k = clause-of-onward s extra at d k (literals s (limits .literals) room at) (literals-span s (limits .literals) room at)
+  body-onward extra why endPermitted at =
+      clause-of-onward s extra at (absent s why endPermitted at) (absent-onward s why endPermitted at) (literals s (limits .literals) room at)
+      (literals-span s (limits .literals) room at)
 
   owed-onward : (extra at : ℕ) → Onward s at (owed s limits room extra at)
   unfolding owed
   owed-onward extra at =
       let e = linebreaks s at in
-      let d = refuses s Reason.literalsExpected e [] in
-      back (linebreaks-spans s at) (body s limits room extra d e) (body-onward extra e d (refuses-onward s Reason.literalsExpected e []))
+      back (linebreaks-spans s at) (body s limits room extra Reason.literalsExpected false e) (body-onward extra Reason.literalsExpected false e)
 
   marked-onward : (big : Reason) (endPermitted : Bool) (at : ℕ) (u : Uint) → UintMoves s at u → Onward s at (marked s limits room big endPermitted at u)
-  marked-onward big endPermitted at uint.Missing m = no-clause-onward s endPermitted at
+  marked-onward big endPermitted at uint.Missing m = absent-onward s Reason.clauseExpected endPermitted at
   marked-onward big endPermitted at uint.TooBig m = refuses-onward s big at []
   marked-onward big endPermitted at (uint.Value extra e) m = back (omega arith) (owed s limits room extra e) (owed-onward extra e)
 
   -- A clause ends within the text and leaves fewer to come; the end is at the text's end; a refusal's place is within reach.
   pub clause-at-onward : (f : Format) (endPermitted : Bool) (at : ℕ) → Onward s at (clauseAt s limits room f endPermitted at)
   unfolding clauseAt plainAt weightedAt groupedAt
-  clause-at-onward Plain endPermitted at = body-onward 0 at (noClause s endPermitted at) (no-clause-onward s endPermitted at)
+  clause-at-onward Plain endPermitted at = body-onward 0 Reason.clauseExpected endPermitted at
   clause-at-onward Weighted endPermitted at = marked-onward Reason.weightTooBig endPermitted at (uintAt s largest at) (uint-moves s largest at)
   clause-at-onward Grouped endPermitted at =
       marked-onward Reason.groupTooBig endPermitted at (bracedUintAt s (limits .groups) at) (braced-uint-moves s (limits .groups) at)
@@ -192,37 +193,34 @@ module _ (s : List ℕ) (limits : Limits) (room : ℕ) where
   refuses-fits : (why : Reason) (at : ℕ) → Fits room (refuses s why at [])
   refuses-fits why at = omega arith
 
-  pub no-clause-fits : (endPermitted : Bool) (at : ℕ) → Fits room (noClause s endPermitted at)
-  unfolding noClause
-  no-clause-fits endPermitted at =
-      chosen (Fits room) (endPermitted && atEnd s at) (λ _. tt) (λ _. refuses-fits Reason.clauseExpected at)
+  pub absent-fits : (why : Reason) (endPermitted : Bool) (at : ℕ) → Fits room (absent s why endPermitted at)
+  unfolding absent
+  absent-fits why endPermitted at = chosen (Fits room) (endPermitted && atEnd s at) (λ _. tt) (λ _. refuses-fits why at)
 
-  body-fits : (extra at : ℕ) (d : Answered) → Fits room d → Fits room (body s limits room extra d at)
+  body-fits : (extra : ℕ) (why : Reason) (endPermitted : Bool) (at : ℕ) → Fits room (body s limits room extra why endPermitted at)
   unfolding body
-  body-fits extra at d k = go (literals s (limits .literals) room at) (literals-fit s (limits .literals) room at)
+  body-fits extra why endPermitted at = go (literals s (limits .literals) room at) (literals-fit s (limits .literals) room at)
     where
       close : (so : List ℤ) (e : ℕ) → length so ≤ room → (x : EndOfLine) → Fits room (lineEnds x (says (clause extra so)) (refuses s Reason.lineEndExpected e so))
       close so e h end.Missing = h
       close so e h (end.Past n) = h
 
-      go : (l : Literals) → LiteralsFit room l → Fits room (clauseOf s extra d l)
-      go nothing h = k
+      go : (l : Literals) → LiteralsFit room l → Fits room (clauseOf s extra (absent s why endPermitted at) l)
+      go nothing h = absent-fits why endPermitted at
       go (closed so e) h = close so e h (endOfLine s e)
       go (stopped r so) h = h
 
   owed-fits : (extra at : ℕ) → Fits room (owed s limits room extra at)
   unfolding owed
-  owed-fits extra at =
-      let e = linebreaks s at in
-      body-fits extra e (refuses s Reason.literalsExpected e []) (refuses-fits Reason.literalsExpected e)
+  owed-fits extra at = body-fits extra Reason.literalsExpected false (linebreaks s at)
 
   marked-fits : (big : Reason) (endPermitted : Bool) (at : ℕ) (u : Uint) → Fits room (marked s limits room big endPermitted at u)
-  marked-fits big endPermitted at uint.Missing = no-clause-fits endPermitted at
+  marked-fits big endPermitted at uint.Missing = absent-fits Reason.clauseExpected endPermitted at
   marked-fits big endPermitted at uint.TooBig = refuses-fits big at
   marked-fits big endPermitted at (uint.Value extra e) = owed-fits extra e
 
   pub clause-at-fits : (f : Format) (endPermitted : Bool) (at : ℕ) → Fits room (clauseAt s limits room f endPermitted at)
   unfolding clauseAt plainAt weightedAt groupedAt
-  clause-at-fits Plain endPermitted at = body-fits 0 at (noClause s endPermitted at) (no-clause-fits endPermitted at)
+  clause-at-fits Plain endPermitted at = body-fits 0 Reason.clauseExpected endPermitted at
   clause-at-fits Weighted endPermitted at = marked-fits Reason.weightTooBig endPermitted at (uintAt s largest at)
   clause-at-fits Grouped endPermitted at = marked-fits Reason.groupTooBig endPermitted at (bracedUintAt s (limits .groups) at)

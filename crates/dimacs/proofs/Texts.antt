@@ -31,7 +31,7 @@ use Rattle.dimacs.specs.declared.Final.the-variants as final
 use Rattle.dimacs.proofs.Loops.{andOn, Gives, Lowers, said-unrolled, said-has}
 use Rattle.dimacs.proofs.Tests.{chosen}
 use Rattle.dimacs.proofs.Spans.{Spans, then-spans, EndCloses, end-closes, blanks-spans, lines-spans, word-spans, UintMoves, uint-moves, UintWithin, uint-within}
-use Rattle.dimacs.proofs.Clauses.{toCome, Placed, Onward, back, no-clause-onward, clause-at-onward, Fits, no-clause-fits, clause-at-fits}
+use Rattle.dimacs.proofs.Clauses.{toCome, Placed, Onward, back, absent-onward, clause-at-onward, Fits, absent-fits, clause-at-fits}
 
 -- Where a text opens: the clauses begin, or the header is refused, within the text, and no more variables are counted than the ceiling.
 abbrev pub Opens : List ℕ → Opening → Type 0
@@ -110,7 +110,7 @@ module _ (s : List ℕ) (f : Format) (limits : Limits) (room : ℕ) where
       let h = then-spans (blanks-spans s at) (lines-spans s (blanks s at)) in
       chosen (Onward s at) (eqb (limits .clauses) 0) (λ _. back h (clauseAt s limits room f true e) (clause-at-onward s limits room f true e))
       (λ _. chosen (Onward s at) (leb (limits .clauses) count)
-      (λ _. back h (noClause s true e) (no-clause-onward s true e))
+      (λ _. back h (noClause s true e) (absent-onward s Reason.clauseExpected true e))
       (λ _. back h (clauseAt s limits room f false e) (clause-at-onward s limits room f false e)))
 
   left : Cursor → ℕ
@@ -160,7 +160,7 @@ answer-fits s f limits room c = go (c .final)
     go final.Open =
         let e = lines s (blanks s (c .place)) in
         chosen (Fits room) (eqb (limits .clauses) 0) (λ _. clause-at-fits s limits room f true e)
-        (λ _. chosen (Fits room) (leb (limits .clauses) (c .count)) (λ _. no-clause-fits s limits room true e) (λ _. clause-at-fits s limits room f false e))
+        (λ _. chosen (Fits room) (leb (limits .clauses) (c .count)) (λ _. absent-fits s limits room Reason.clauseExpected true e) (λ _. clause-at-fits s limits room f false e))
     go final.Ended = tt
     go (final.Refused r) = omega arith
 

@@ -1,6 +1,6 @@
 -- A clause of each format.
 use Prim.Native.Nat.{ℕ, suc}
-use mathlib.Core.Bool.{Bool, cond, _&&_}
+use mathlib.Core.Bool.{Bool, false, cond, _&&_}
 use mathlib.Core.List.{List, [], _++_}
 use lib.ListN.{length, drop}
 use lib.Dec.{eqb}
@@ -76,18 +76,22 @@ module _ (s : List ℕ) where
   clauseOf extra otherwise (closed so at) = lineEnds (endOfLine s at) (says (clause extra so)) (refuses Reason.lineEndExpected at so)
   clauseOf extra otherwise (stopped r so) = says (refused r so) (r .place)
 
-  -- Where no clause stands: the end of the text if it is permitted, else refusal 9.
-  unfoldable pub noClause : Bool → ℕ → Answered
-  noClause endPermitted at = cond (endPermitted && atEnd s at) (says ended at) (refuses Reason.clauseExpected at [])
+  -- Where no number stands: the end of the text if it is permitted, else a refusal.
+  unfoldable pub absent : Reason → Bool → ℕ → Answered
+  absent why endPermitted at = cond (endPermitted && atEnd s at) (says ended at) (refuses why at [])
+
+  -- Where no clause stands, that refusal is 9.
+  abbrev pub noClause : Bool → ℕ → Answered
+  noClause = absent Reason.clauseExpected
 
 module _ (s : List ℕ) (limits : Limits) (room : ℕ) where
-  -- A clause from its literals on, or another answer where no number stands.
-  unfoldable pub body : ℕ → Answered → ℕ → Answered
-  body extra otherwise at = clauseOf s extra otherwise (literals s (limits .literals) room at)
+  -- A clause from its literals on.
+  unfoldable pub body : ℕ → Reason → Bool → ℕ → Answered
+  body extra why endPermitted at = clauseOf s extra (absent s why endPermitted at) (literals s (limits .literals) room at)
 
   -- After a weight or group, line ends and comments may come; then literals must.
   unfoldable pub owed : ℕ → ℕ → Answered
-  owed extra at = let e = linebreaks s at in body extra (refuses s Reason.literalsExpected e []) e
+  owed extra at = body extra Reason.literalsExpected false (linebreaks s at)
 
   -- By the weight or group at a place.
   abbrev pub marked : Reason → Bool → ℕ → Uint → Answered
@@ -97,7 +101,7 @@ module _ (s : List ℕ) (limits : Limits) (room : ℕ) where
 
   -- A plain clause begins with its first number.
   unfoldable pub plainAt : Bool → ℕ → Answered
-  plainAt endPermitted at = body 0 (noClause s endPermitted at) at
+  plainAt = body 0 Reason.clauseExpected
 
   -- A weighted clause begins with its weight.
   unfoldable pub weightedAt : Bool → ℕ → Answered

@@ -1,16 +1,16 @@
 -- The line of a clause, read where it begins. Assumes nothing.
 use Prim.Native.Nat.{ℕ, _+_, _≤_}
 use Prim.Native.Char.{code}
-use mathlib.Core.Bool.{Bool}
+use mathlib.Core.Bool.{Bool, false}
 use mathlib.Core.List.{List, [], _∷_, _++_, append-assoc, append-nil}
 use mathlib.Core.Path.{_≡_, refl, ap, sym, _∙_}
 use native.Mathlib.Omega.{arith}
 use lib.ListN.{length, getD, length-append}
 use lib.IntN.{ℤ, pos, negsuc}
-use Rattle.dimacs.specs.Names.{ceiling, largest}
+use Rattle.dimacs.specs.Names.{Reason, ceiling, largest}
 use Rattle.dimacs.specs.Tokens.{intAt}
 use Rattle.dimacs.specs.Rows.{closes, reads, row}
-use Rattle.dimacs.specs.Clauses.{closed, literals, Answered, clause, says, noClause, body, owed, plainAt, weightedAt, groupedAt, clauseAt}
+use Rattle.dimacs.specs.Clauses.{closed, literals, clause, says, body, owed, plainAt, weightedAt, groupedAt, clauseAt}
 use Rattle.dimacs.specs.Writing.{digits, signedDigits, lead, items, clauseLine}
 use Rattle.dimacs.specs.declared.Format.{Format}
 use Rattle.dimacs.specs.declared.Format.the-variants.{Plain, Weighted, Grouped}
@@ -105,21 +105,20 @@ line-opens f extra so t = rw (line-on f extra so t) (go f)
 
 module _ (s : List ℕ) (limits : Limits) (low : limits .literals ≤ ceiling) (room : ℕ) (extra : ℕ) (so : List ℤ) (t : List ℕ)
     (k : Each (LiteralFits (limits .literals)) so) (few : length so ≤ room) where
-  body-written : (d : Answered) → Ends s (closing so t) → body s limits room extra d (start s (closing so t)) ≡ says (clause extra so) (start s t)
+  body-written : (why : Reason) (permitted : Bool) → Ends s (closing so t)
+      → body s limits room extra why permitted (start s (closing so t)) ≡ says (clause extra so) (start s t)
   unfolding body
-  body-written d h = rw (literals-written s (limits .literals) low t room so k few h, line-written t (line-ends s (limits .literals) low t so h))
+  body-written why permitted h = rw (literals-written s (limits .literals) low t room so k few h, line-written t (line-ends s (limits .literals) low t so h))
 
   owed-written : Ends s (closing so t) → owed s limits room extra (start s (closing so t)) ≡ says (clause extra so) (start s t)
   unfolding owed
-  owed-written h = rw (linebreaks-none (closing so t) (closing-opens so t .bare) h) (body-written _ h)
+  owed-written h = rw (linebreaks-none (closing so t) (closing-opens so t .bare) h) (body-written Reason.literalsExpected false h)
 
   led : (f : Format) → ExtraFits f limits extra → Ends s (leading f extra (closing so t)) → (endPermitted : Bool)
       → clauseAt s limits room f endPermitted (start s (leading f extra (closing so t))) ≡ says (clause extra so) (start s t)
   unfolding clauseAt plainAt weightedAt groupedAt
   led Plain e h endPermitted =
-      let at = start s (closing so t) in
-      let d = noClause s endPermitted at in
-      ap (λ x. body s limits room x d at) (sym e) ∙ body-written d h
+      ap (λ x. body s limits room x Reason.clauseExpected endPermitted (start s (closing so t))) (sym e) ∙ body-written Reason.clauseExpected endPermitted h
   led Weighted e h endPermitted =
       let u = closing so t in
       rw (uint-written extra (32 ∷ u) h largest (parted so t) e) (owed-written (ends-after (digits extra) 32 u h))

@@ -10,7 +10,7 @@ use lib.Dec.{leb, eqb}
 use lib.ListN.{length, getD}
 use Rattle.dimacs.specs.Names.{ceiling, largest}
 use Rattle.dimacs.specs.Tokens.{none, unsigned, intAt, uintAt, bracedUintAt}
-use Rattle.dimacs.specs.Clauses.{Answered, ended, says, noClause, body, plainAt, weightedAt, groupedAt, clauseAt}
+use Rattle.dimacs.specs.Clauses.{Answered, ended, says, absent, noClause, body, plainAt, weightedAt, groupedAt, clauseAt}
 use Rattle.dimacs.specs.Texts.{cursorAt, oneMore, nextClause, answerAt, settled, turnBy, turn, answersFrom}
 use Rattle.dimacs.specs.Writing.{clauseLine}
 use Rattle.dimacs.specs.declared.Format.{Format}
@@ -37,7 +37,7 @@ module _ (s : List ℕ) (at : ℕ) (h : length s ≤ at) where
   no-int limit = sym (int-missing s limit at at (sym (minus-no s at (no-byte s at 44 h))) no-number)
 
   end-permitted : noClause s true at ≡ says ended at
-  unfolding noClause
+  unfolding absent
   end-permitted = rw (le-leb (length s) at h)
 
   clause-none : (f : Format) (limits : Limits) (room : ℕ) → clauseAt s limits room f true at ≡ says ended at

@@ -11,6 +11,9 @@ clause-lits-requires c κs = search needs
 enum-told : tie.Need-enum-told
 enum-told c = search needs
 
+absent-requires : tie.Need-absent-requires
+absent-requires c κs = search needs
+
 enum-known-count : tie.Need-enum-known-count
 enum-known-count c = search needs
 
@@ -33,25 +36,25 @@ same-length : tie.Need-same-length
 same-length c = search needs
 
 returns : tie.Need-returns
-returns c = λ d u. body-leads _ _ _ _ _ _ d (c .before .before .before .clause-lits .ensures) (c .enum-told .given .1) _ u
+returns c = λ why is. body-leads _ _ _ _ _ _ why _ (c .before .before .before .before .clause-lits .ensures) (c .before .enum-told .given .1) _ (c .absent .ensures why is)
 
 same-length-2 : tie.Need-same-length-2
 same-length-2 c = search needs
 
 returns-2 : tie.Need-returns-2
-returns-2 c = λ d u. body-leads _ _ _ _ _ _ d (c .before .before .before .before .before .before .before .before .clause-lits .ensures) (c .before .before .before .before .before .count .given .1) .0 _ (sym (c .before .before .before .interactive-end-of-line .ensures) ∙ c .before .enum-told2 .given .1) (c .refused .ensures)
+returns-2 c = λ why is. body-leads _ _ _ _ _ _ why _ (c .before .before .before .before .before .before .before .before .clause-lits .ensures) (c .before .before .before .before .before .count .given .1) .0 _ (sym (c .before .before .before .interactive-end-of-line .ensures) ∙ c .before .enum-told2 .given .1) (c .refused .ensures)
 
 same-length-3 : tie.Need-same-length-3
 same-length-3 c = search needs
 
 returns-3 : tie.Need-returns-3
-returns-3 c = λ d u. body-leads _ _ _ _ _ _ d (c .before .before .before .before .before .before .before .before .clause-lits .ensures) (c .before .before .before .before .before .count .given .1) .1 _ (sym (c .before .before .before .interactive-end-of-line .ensures) ∙ c .before .place .given .1)
+returns-3 c = λ why is. body-leads _ _ _ _ _ _ why _ (c .before .before .before .before .before .before .before .before .clause-lits .ensures) (c .before .before .before .before .before .count .given .1) .1 _ (sym (c .before .before .before .interactive-end-of-line .ensures) ∙ c .before .place .given .1)
 
 same-length-4 : tie.Need-same-length-4
 same-length-4 c = search needs
 
 returns-4 : tie.Need-returns-4
-returns-4 c = λ d u. body-leads _ _ _ _ _ _ d (c .before .before .before .before .clause-lits .ensures) (c .before .refusal .given .1)
+returns-4 c = λ why is. body-leads _ _ _ _ _ _ why _ (c .before .before .before .before .clause-lits .ensures) (c .before .refusal .given .1)
 
 pub clause-body-spec : {M : Type 1} → statement M
 clause-body-spec =
@@ -59,6 +62,7 @@ clause-body-spec =
     (tie.spec
     clause-lits-requires
     enum-told
+    absent-requires
     enum-known-count
     interactive-end-of-line-requires
     enum-told-2

@@ -1,32 +1,15 @@
--- `clause::no_clause` meets its contract: the end where it is permitted and the text has ended, else the refusal. Assumes nothing.
-use mathlib.Core.Logic.{⊎-elim}
-use mathlib.Core.Path.{sym, _∙_}
-use Rattle.dimacs.specs.Clauses.{noClause}
+-- `clause::no_clause` meets its contract: what is said where no number stands, by its reason. Assumes nothing.
+use mathlib.Core.Path.{refl}
+use Rattle.dimacs.specs.Names.{Reason}
 use borrow.Author.Needs.{needs}
 use Rattle.clause.proofs.no_clause.Statement.{statement}
 use Rattle.clause.proofs.no_clause.Tie as tie
 
-eof-requires : tie.Need-eof-requires
-eof-requires c κs = search needs
+absent-requires : tie.Need-absent-requires
+absent-requires c κs = search needs
 
 returns : tie.Need-returns
-unfolding noClause
-returns c = let p = c .before .before .if1 .taken in
-    let t = sym (c .before .eof .ensures) ∙ c .if2 .taken in
-    rw (p, t)
-
-refused-requires : tie.Need-refused-requires
-refused-requires c κs = search needs
-
-returns-2 : tie.Need-returns-2
-unfolding noClause
-returns-2 c =
-    ⊎-elim
-    (λ x. let p = x .0 .taken in
-    let t = sym (x .1 .ensures) ∙ x .2 .left in
-    rw (p, t) (c .refused .ensures))
-    (λ x. let p = x .left in rw p (c .refused .ensures))
-    (c .before .if1 .came)
+returns c = c .absent .ensures Reason.clauseExpected refl
 
 pub no-clause-spec : {M : Type 1} → statement M
-no-clause-spec = tie.close (tie.spec eof-requires returns refused-requires returns-2)
+no-clause-spec = tie.close (tie.spec absent-requires returns)
