@@ -1,7 +1,5 @@
 // Answers framed cases from standard input. A frame is format, mode, room and length, of one, one, four and four bytes, little-endian, and then so many
 // bytes of text. Each is answered by `case N` and what the reader of its format says of the text, line by line.
-ghost use mathlib.Core.Path.{_≡_};
-ghost use Prim.Native.Nat.{min};
 use clause::Next;
 use dimacs::Format;
 use dimacs::Header;
@@ -172,16 +170,10 @@ fn text_lines(text: &mut [u8], format: u8, mode: u8, lits: &mut [i32]) -> bool {
     true
 }
 
-fn smaller(a: usize, b: usize) -> usize
-    ensures { λ r. ⌜ r ≡ min a b ⌝ }
-{
-    if a < b { a } else { b }
-}
-
 // Passes over at most so many bytes, and tells over how many.
 fn skip_some(most: usize) -> usize {
     let mut part = io::buffer();
-    let n = smaller(most, part.len());
+    let n = frame::smaller(most, part.len());
     io::read_full(STDIN_FILENO, &mut part[..n])
 }
 
@@ -193,7 +185,7 @@ fn skip(length: usize) -> bool {
         if got == 0 {
             return false;
         }
-        left -= smaller(got, left);
+        left -= frame::smaller(got, left);
     }
     true
 }
@@ -227,7 +219,7 @@ fn one(case: u64, text: &mut [u8], lits: &mut [i32]) -> bool {
     if text.len() < length {
         return long_text(length);
     }
-    let most = smaller(room, lits.len());
+    let most = frame::smaller(room, lits.len());
     text_lines(&mut text[..length], frame[0], frame[1], &mut lits[..most])
 }
 

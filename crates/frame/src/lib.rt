@@ -1,6 +1,6 @@
-// Numbers from the bytes of a frame, little-endian.
+// Numbers from the bytes of a frame, little-endian, and the smaller of two sizes.
 ghost use mathlib.Core.Path.{_≡_};
-ghost use Prim.Native.Nat.{_+_, _*_};
+ghost use Prim.Native.Nat.{_+_, _*_, min};
 ghost use mir.Syntax.{Width};
 ghost use mir.Val.{toZ};
 
@@ -36,4 +36,10 @@ pub fn signed32(n: u32) -> i32
         return n as i32;
     }
     -1 - ((4294967295 - n) as i32)
+}
+
+pub fn smaller(a: usize, b: usize) -> usize
+    ensures { λ r. ⌜ r ≡ min a b ⌝ }
+{
+    if a < b { a } else { b }
 }

@@ -3,7 +3,7 @@
 // They wait in one tray of 32 places; the rest are put as places come free. A line is printed for each ticket given and for all that a turn tells
 // it. Beside its verdict stand the turns taken since it was given, and the most that a text of so many bytes can take.
 ghost use mathlib.Core.Path.{_≡_};
-ghost use Prim.Native.Nat.{_+_, _*_, _/_, _≤_, min};
+ghost use Prim.Native.Nat.{_+_, _*_, _/_, _≤_};
 ghost use Rattle.dimacs.specs.Names.{places};
 use clause::Next;
 use dimacs::Format;
@@ -102,12 +102,6 @@ fn opening_words(opening: Opening, format: Format) {
     }
 }
 
-fn smaller(a: usize, b: usize) -> usize
-    ensures { λ r. ⌜ r ≡ min a b ⌝ }
-{
-    if a < b { a } else { b }
-}
-
 // The most turns from its put on that a text of so many bytes can take.
 fn most_turns(bytes: usize) -> u64
     requires { ⌜ bytes ≤ 128 ⌝ }
@@ -126,13 +120,13 @@ fn turns_words(taken: u64, bytes: usize) {
     word(b", turns");
     number(taken);
     word(b" of at most");
-    number(most_turns(smaller(bytes, SPAN)));
+    number(most_turns(frame::smaller(bytes, SPAN)));
 }
 
 // Lays a text into the area from a place on.
 fn lay(area: &mut [u8], start: usize, text: &[u8]) {
     if start <= area.len() {
-        let most = smaller(text.len(), area.len() - start);
+        let most = frame::smaller(text.len(), area.len() - start);
         for i in 0..most {
             area[start + i] = text[i];
         }
@@ -143,7 +137,14 @@ fn lay(area: &mut [u8], start: usize, text: &[u8]) {
 fn put_text(tray: Tray, area: &mut [u8], order: usize, format: u8, text: &[u8]) -> PutDone {
     let start = order % ORDERS * SPAN;
     lay(area, start, text);
-    tray::put(tray, format, 0, start, smaller(text.len(), SPAN), area)
+    tray::put(
+        tray,
+        format,
+        0,
+        start,
+        frame::smaller(text.len(), SPAN),
+        area,
+    )
 }
 
 // Ten models of good orders.

@@ -3,8 +3,6 @@
 // First comes the area: its length in four bytes, and its bytes, at most 65,536. Then come calls, each a byte and what follows it:
 // 0 puts (format and mode of one byte each, start and length of eight), 1 takes a turn (how much of the area and how much of the literal buffer
 // is lent, of four bytes each), 2 withdraws (a ticket of eight), 3 changes a byte of the area (an offset of four, and the byte).
-ghost use mathlib.Core.Path.{_≡_};
-ghost use Prim.Native.Nat.{min};
 use clause::Next;
 use dimacs::Format;
 use dimacs::Header;
@@ -182,12 +180,6 @@ fn unknown(tray: Tray) -> Called {
     last(tray)
 }
 
-fn smaller(a: usize, b: usize) -> usize
-    ensures { λ r. ⌜ r ≡ min a b ⌝ }
-{
-    if a < b { a } else { b }
-}
-
 fn put_call(tray: Tray, area: &[u8]) -> Called {
     let mut call = [0u8; 18];
     if io::read_full(STDIN_FILENO, &mut call) < 18 {
@@ -209,11 +201,11 @@ fn turn_call(tray: Tray, area: &[u8], lits: &mut [i32]) -> Called {
     if io::read_full(STDIN_FILENO, &mut call) < 8 {
         return cut(tray);
     }
-    let lent = smaller(
+    let lent = frame::smaller(
         frame::le32(call[0], call[1], call[2], call[3]) as usize,
         area.len(),
     );
-    let room = smaller(
+    let room = frame::smaller(
         frame::le32(call[4], call[5], call[6], call[7]) as usize,
         lits.len(),
     );

@@ -3,7 +3,7 @@
 // a clause, and the first number its weight or group. Each call is answered by `case N` and `written LENGTH BYTES`, the bytes in hexadecimal, or by
 // `refused NUMBER PLACE 0`. A kind that is neither is refused as a format is that is none of the three.
 ghost use mathlib.Core.Path.{_≡_};
-ghost use Prim.Native.Nat.{_+_, _≤_, min};
+ghost use Prim.Native.Nat.{_+_, _≤_};
 ghost use lib.ListN.{length};
 ghost use Rattle.writer.specs.Answers.{lineLength};
 use dimacs::FORMAT_OR_MODE_UNKNOWN;
@@ -44,12 +44,6 @@ fn hex_word(w: &[u8]) {
     for i in 0..w.len() {
         hex(w[i]);
     }
-}
-
-fn smaller(a: usize, b: usize) -> usize
-    ensures { λ r. ⌜ r ≡ min a b ⌝ }
-{
-    if a < b { a } else { b }
 }
 
 // What the output holds at a place before a call. Neighbours differ, so that a byte that was moved is seen too.
@@ -213,7 +207,7 @@ fn framed(call: Call, lits: &mut [i32], out: &mut [u8]) -> bool {
 // Passes over at most so many bytes, and tells over how many.
 fn skip_some(most: usize) -> usize {
     let mut part = io::buffer();
-    let n = smaller(most, part.len());
+    let n = frame::smaller(most, part.len());
     io::read_full(STDIN_FILENO, &mut part[..n])
 }
 
@@ -225,7 +219,7 @@ fn skip(length: usize) -> bool {
         if got == 0 {
             return false;
         }
-        left -= smaller(got, left);
+        left -= frame::smaller(got, left);
     }
     true
 }
@@ -252,7 +246,7 @@ fn one(case: u64, lits: &mut [i32], out: &mut [u8]) -> bool {
     if got < HEAD {
         return cut();
     }
-    let lent = smaller(u32_at(&head, 2) as usize, out.len());
+    let lent = frame::smaller(u32_at(&head, 2) as usize, out.len());
     let count = u32_at(&head, 30);
     let given = count as usize;
     if lits.len() < given {
