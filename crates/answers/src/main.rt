@@ -1,8 +1,13 @@
 // Answers framed cases from standard input. A frame is format, mode, room and length, of one, one, four and four bytes, little-endian, and then so many
 // bytes of text. Each is answered by `case N` and what the reader of its format says of the text, line by line.
 use clause::Next;
-use dimacs::Format;
-use dimacs::Header;
+use console::clause_line;
+use console::cut;
+use console::end_line;
+use console::header_line;
+use console::hex_word;
+use console::literals;
+use console::word;
 use dimacs::LARGEST;
 use dimacs::LOG_FORMAT;
 use dimacs::Opening;
@@ -10,41 +15,7 @@ use dimacs::Refusal;
 use dimacs::Verdict;
 use formula::Cursor;
 use libc::STDIN_FILENO;
-use libc::STDOUT_FILENO;
 use sat_solver_log::Log;
-
-fn word(w: &[u8]) {
-    io::write_all(STDOUT_FILENO, w);
-}
-
-fn number(n: u64) {
-    word(b" ");
-    io::print_decimal(STDOUT_FILENO, n);
-}
-
-fn literal(v: i32) {
-    word(b" ");
-    if v < 0 {
-        word(b"-");
-    }
-    io::print_decimal(STDOUT_FILENO, dimacs::magnitude(v));
-}
-
-fn literals(lits: &[i32]) {
-    for i in 0..lits.len() {
-        literal(lits[i]);
-    }
-}
-
-fn hex(b: u8) {
-    io::print_hex(STDOUT_FILENO, b as u64, 2);
-}
-
-fn hex_word(w: &[u8]) {
-    for i in 0..w.len() {
-        hex(w[i]);
-    }
-}
 
 // The word that a refusal stopped at, if there is one.
 fn stopped_word(w: &[u8]) {
@@ -56,47 +27,10 @@ fn stopped_word(w: &[u8]) {
 
 // Number, place and k of a refusal, and the word it stopped at. Where a format or mode is unknown no text is at fault, and there is no word.
 fn refused_line(text: &[u8], r: Refusal, count: usize) {
-    word(b"refused");
-    number(r.number as u64);
-    number(r.place as u64);
-    number(count as u64);
+    console::refused_words(r, count, b"", b"");
     if r.number != dimacs::FORMAT_OR_MODE_UNKNOWN {
         stopped_word(formula::stopped_at(text, r.place));
     }
-    word(b"\n");
-}
-
-fn end_line() {
-    word(b"end\n");
-}
-
-fn header_line(header: Header, format: Format) {
-    word(b"header");
-    number(header.variables);
-    number(header.clauses);
-    match format {
-        Format::Plain => {}
-        Format::Weighted => number(header.third),
-        Format::Grouped => number(header.third),
-    }
-    word(b"\n");
-}
-
-fn clause_line(format: Format, extra: u64, lits: &[i32]) {
-    word(b"clause");
-    match format {
-        Format::Plain => {}
-        Format::Weighted => {
-            number(extra);
-            word(b":");
-        }
-        Format::Grouped => {
-            word(b" {");
-            io::print_decimal(STDOUT_FILENO, extra);
-            word(b"}:");
-        }
-    }
-    literals(lits);
     word(b"\n");
 }
 
@@ -163,41 +97,10 @@ fn reader_lines(text: &[u8], format: u8, mode: u8, lits: &mut [i32]) {
 // The text of a frame, and whether it came whole.
 fn text_lines(text: &mut [u8], format: u8, mode: u8, lits: &mut [i32]) -> bool {
     if io::read_full(STDIN_FILENO, text) < text.len() {
-        word(b"cut\n");
-        return false;
+        return cut();
     }
     reader_lines(text, format, mode, lits);
     true
-}
-
-// Passes over at most so many bytes, and tells over how many.
-fn skip_some(most: usize) -> usize {
-    let mut part = io::buffer();
-    let n = frame::smaller(most, part.len());
-    io::read_full(STDIN_FILENO, &mut part[..n])
-}
-
-// Passes over so many bytes, and tells whether they came.
-fn skip(length: usize) -> bool {
-    let mut left = length;
-    while 0 < left {
-        let got = skip_some(left);
-        if got == 0 {
-            return false;
-        }
-        left -= frame::smaller(got, left);
-    }
-    true
-}
-
-// A text that is too long to be read.
-fn long_text(length: usize) -> bool {
-    word(b"long\n");
-    if skip(length) {
-        return true;
-    }
-    word(b"cut\n");
-    false
 }
 
 // One case, and whether another may follow.
@@ -207,17 +110,14 @@ fn one(case: u64, text: &mut [u8], lits: &mut [i32]) -> bool {
     if got == 0 {
         return false;
     }
-    word(b"case");
-    number(case);
-    word(b"\n");
+    console::case_line(case);
     if got < 10 {
-        word(b"cut\n");
-        return false;
+        return cut();
     }
     let room = frame::le32(frame[2], frame[3], frame[4], frame[5]) as usize;
     let length = frame::le32(frame[6], frame[7], frame[8], frame[9]) as usize;
     if text.len() < length {
-        return long_text(length);
+        return console::long(length);
     }
     let most = frame::smaller(room, lits.len());
     text_lines(&mut text[..length], frame[0], frame[1], &mut lits[..most])

@@ -3,6 +3,12 @@ ghost use mathlib.Core.Path.{_≡_};
 ghost use Prim.Native.Nat.{_≤_};
 ghost use lib.ListN.{length};
 use clause::Next;
+use console::clause_line;
+use console::end_line;
+use console::header_line;
+use console::number;
+use console::refused_line;
+use console::word;
 use dimacs::Format;
 use dimacs::Header;
 use dimacs::LARGEST;
@@ -11,7 +17,6 @@ use dimacs::Opening;
 use dimacs::ROOM;
 use dimacs::Refusal;
 use formula::Cursor;
-use libc::STDOUT_FILENO;
 use writer::Written;
 
 // A formula but for its clauses. Those are two lists: the weights or groups, all 0 where the format has none, and the literals, a 0 after each clause.
@@ -19,29 +24,6 @@ struct Formula {
     format: Format,
     headed: bool,
     header: Header,
-}
-
-fn word(w: &[u8]) {
-    io::write_all(STDOUT_FILENO, w);
-}
-
-fn number(n: u64) {
-    word(b" ");
-    io::print_decimal(STDOUT_FILENO, n);
-}
-
-fn literal(v: i32) {
-    word(b" ");
-    if v < 0 {
-        word(b"-");
-    }
-    io::print_decimal(STDOUT_FILENO, dimacs::magnitude(v));
-}
-
-fn literals(lits: &[i32]) {
-    for i in 0..lits.len() {
-        literal(lits[i]);
-    }
 }
 
 // Says so if what was read is not what was written.
@@ -147,22 +129,10 @@ fn same(a: &[i32], b: &[i32]) -> bool {
     true
 }
 
-fn third(format: Format, n: u64) {
-    match format {
-        Format::Plain => {}
-        Format::Weighted => number(n),
-        Format::Grouped => number(n),
-    }
-}
-
 fn header_read(f: Formula, read: Header) {
     let format = f.format;
     let h = f.header;
-    word(b"header");
-    number(read.variables);
-    number(read.clauses);
-    third(format, read.third);
-    word(b"\n");
+    header_line(read, format);
     compared(
         f.headed
             && read.variables == h.variables
@@ -182,41 +152,20 @@ fn opening_read(f: Formula, read: Opening) {
     }
 }
 
-fn lead(format: Format, extra: u64) {
-    match format {
-        Format::Plain => {}
-        Format::Weighted => {
-            number(extra);
-            word(b":");
-        }
-        Format::Grouped => {
-            word(b" {");
-            io::print_decimal(STDOUT_FILENO, extra);
-            word(b"}:");
-        }
-    }
-}
-
 // A clause that was read. It must be due, and its literals these.
 fn clause_read(format: Format, extra: u64, lits: &[i32], due: bool, given: &[i32]) {
-    word(b"clause");
-    lead(format, extra);
-    literals(lits);
-    word(b"\n");
+    clause_line(format, extra, lits);
     compared(due && same(lits, given));
 }
 
 fn end_read(due: bool) {
-    word(b"end\n");
+    end_line();
     compared(due);
 }
 
 // A refusal, which is never due.
 fn refused_read(r: Refusal) {
-    word(b"refused");
-    number(r.number as u64);
-    number(r.place as u64);
-    word(b"\n");
+    refused_line(r);
     compared(false);
 }
 

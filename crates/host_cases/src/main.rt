@@ -1,28 +1,18 @@
 // Runs framed cases through the host calls. A frame is format, mode and length, of four bytes each, little-endian, and then so many bytes of text. Each is
 // answered by a line: the number of the refusal or 0, and its place or the text's length. A frame that is cut off, or whose text is too long, is the last.
+use console::cut;
 use libc::STDIN_FILENO;
 use libc::STDOUT_FILENO;
 
-fn word(w: &[u8]) {
-    io::write_all(STDOUT_FILENO, w);
-}
-
 fn line(number: u32, place: u64) {
     io::print_decimal(STDOUT_FILENO, number as u64);
-    word(b" ");
-    io::print_decimal(STDOUT_FILENO, place);
-    word(b"\n");
+    console::number(place);
+    console::word(b"\n");
 }
 
 fn answer(format: u32, mode: u32, text: &[u8]) {
     let number = host::latchtwig_refusal(format, mode, text);
     line(number, host::latchtwig_place(format, mode, text));
-}
-
-// The last line where a frame is cut off or its text too long.
-fn cut() -> bool {
-    word(b"cut\n");
-    false
 }
 
 // The rest of a case whose text fills the slice lent, and whether another may follow.

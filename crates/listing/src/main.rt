@@ -1,58 +1,14 @@
 // Lists a strict plain text from standard input: its header, its clauses, and how it ends.
 use clause::Next;
-use dimacs::Header;
+use console::clause_line;
+use console::end_line;
+use console::header_line;
+use console::refused_line;
+use console::word;
+use dimacs::Format;
 use dimacs::Opening;
-use dimacs::Refusal;
 use formula::Cursor;
 use libc::STDIN_FILENO;
-use libc::STDOUT_FILENO;
-
-fn word(w: &[u8]) {
-    io::write_all(STDOUT_FILENO, w);
-}
-
-fn number(n: u64) {
-    word(b" ");
-    io::print_decimal(STDOUT_FILENO, n);
-}
-
-fn literal(v: i32) {
-    word(b" ");
-    if v < 0 {
-        word(b"-");
-    }
-    io::print_decimal(STDOUT_FILENO, dimacs::magnitude(v));
-}
-
-fn literals(lits: &[i32]) {
-    for i in 0..lits.len() {
-        literal(lits[i]);
-    }
-}
-
-fn header_line(h: Header) {
-    word(b"header");
-    number(h.variables);
-    number(h.clauses);
-    word(b"\n");
-}
-
-fn clause_line(lits: &[i32]) {
-    word(b"clause");
-    literals(lits);
-    word(b"\n");
-}
-
-fn refused_line(r: Refusal) {
-    word(b"refused");
-    number(r.number as u64);
-    number(r.place as u64);
-    word(b"\n");
-}
-
-fn end_line() {
-    word(b"end\n");
-}
 
 // The clauses from a cursor on, and the end or the refusal.
 fn clauses(text: &[u8], from: Cursor, lits: &mut [i32]) {
@@ -62,7 +18,7 @@ fn clauses(text: &[u8], from: Cursor, lits: &mut [i32]) {
         cursor = step.cursor;
         let answer = step.answer;
         match answer {
-            Next::Clause { extra: _, count } => clause_line(&lits[..count]),
+            Next::Clause { extra, count } => clause_line(Format::Plain, extra, &lits[..count]),
             Next::Ended => return end_line(),
             Next::Refused { refusal, count: _ } => return refused_line(refusal),
         }
@@ -73,7 +29,7 @@ fn list(text: &[u8]) {
     let opened = formula::open(text, 0, 0);
     let opening = opened.opening;
     match opening {
-        Opening::Header(header, _) => header_line(header),
+        Opening::Header(header, _) => header_line(header, Format::Plain),
         Opening::NoHeader(_) => word(b"header none\n"),
         Opening::Refused(_) => {}
     }

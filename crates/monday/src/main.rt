@@ -6,13 +6,14 @@ ghost use mathlib.Core.Path.{_≡_};
 ghost use Prim.Native.Nat.{_+_, _*_, _/_, _≤_};
 ghost use Rattle.dimacs.specs.Names.{places};
 use clause::Next;
+use console::clause_words;
+use console::number;
+use console::opening_words;
+use console::refused_words;
+use console::word;
 use dimacs::Format;
-use dimacs::Header;
-use dimacs::Opening;
 use dimacs::PLACES;
 use dimacs::ROOM;
-use dimacs::Refusal;
-use libc::STDOUT_FILENO;
 use tray::Job;
 use tray::PutAnswer;
 use tray::PutDone;
@@ -29,78 +30,6 @@ const SPAN: usize = 128;
 
 // More turns than the day takes.
 const DAY: u64 = 1000;
-
-fn word(w: &[u8]) {
-    io::write_all(STDOUT_FILENO, w);
-}
-
-fn plain_number(n: u64) {
-    io::print_decimal(STDOUT_FILENO, n);
-}
-
-fn number(n: u64) {
-    word(b" ");
-    plain_number(n);
-}
-
-fn literal(v: i32) {
-    word(b" ");
-    if v < 0 {
-        word(b"-");
-    }
-    plain_number(dimacs::magnitude(v));
-}
-
-fn literals(lits: &[i32]) {
-    for i in 0..lits.len() {
-        literal(lits[i]);
-    }
-}
-
-fn header_words(header: Header, format: Format) {
-    word(b"header");
-    number(header.variables);
-    number(header.clauses);
-    match format {
-        Format::Plain => {}
-        Format::Weighted => number(header.third),
-        Format::Grouped => number(header.third),
-    }
-}
-
-fn clause_words(format: Format, extra: u64, lits: &[i32]) {
-    word(b"clause");
-    match format {
-        Format::Plain => {}
-        Format::Weighted => {
-            number(extra);
-            word(b":");
-        }
-        Format::Grouped => {
-            word(b" {");
-            plain_number(extra);
-            word(b"}:");
-        }
-    }
-    literals(lits);
-}
-
-fn refused_words(r: Refusal, count: usize) {
-    word(b"refused");
-    number(r.number as u64);
-    word(b" at");
-    number(r.place as u64);
-    word(b", literals");
-    number(count as u64);
-}
-
-fn opening_words(opening: Opening, format: Format) {
-    match opening {
-        Opening::Header(header, _) => header_words(header, format),
-        Opening::NoHeader(_) => word(b"header none"),
-        Opening::Refused(refusal) => refused_words(refusal, 0),
-    }
-}
 
 // The most turns from its put on that a text of so many bytes can take.
 fn most_turns(bytes: usize) -> u64
@@ -258,11 +187,16 @@ fn turn_line(mut day: Day, area: &[u8], lits: &mut [i32], turn: u64) -> Day {
             number(ticket);
             word(b": ");
             match said {
-                Said::Opening(opening) => opening_words(opening, format),
+                Said::Opening(opening) => opening_words(opening, format, b" at", b", literals"),
                 Said::Next(next) => match next {
                     Next::Clause { extra, count } => clause_words(format, extra, &lits[..count]),
                     Next::Ended => word(b"end"),
-                    Next::Refused { refusal, count } => refused_words(refusal, count),
+                    Next::Refused { refusal, count } => refused_words(
+                        refusal,
+                        count,
+                        b" at",
+                        b", literals",
+                    ),
                 },
             }
             if last {

@@ -4,87 +4,21 @@
 // 0 puts (format and mode of one byte each, start and length of eight), 1 takes a turn (how much of the area and how much of the literal buffer
 // is lent, of four bytes each), 2 withdraws (a ticket of eight), 3 changes a byte of the area (an offset of four, and the byte).
 use clause::Next;
+use console::clause_words;
+use console::number;
+use console::opening_words;
+use console::refused_words;
+use console::word;
 use dimacs::Format;
-use dimacs::Header;
 use dimacs::LARGEST;
-use dimacs::Opening;
 use dimacs::PLACES;
-use dimacs::Refusal;
 use libc::STDIN_FILENO;
-use libc::STDOUT_FILENO;
 use tray::PutAnswer;
 use tray::Said;
 use tray::Stage;
 use tray::Tray;
 use tray::TurnAnswer;
 use tray::WithdrawAnswer;
-
-fn word(w: &[u8]) {
-    io::write_all(STDOUT_FILENO, w);
-}
-
-fn number(n: u64) {
-    word(b" ");
-    io::print_decimal(STDOUT_FILENO, n);
-}
-
-fn literal(v: i32) {
-    word(b" ");
-    if v < 0 {
-        word(b"-");
-    }
-    io::print_decimal(STDOUT_FILENO, dimacs::magnitude(v));
-}
-
-fn literals(lits: &[i32]) {
-    for i in 0..lits.len() {
-        literal(lits[i]);
-    }
-}
-
-fn header_words(header: Header, format: Format) {
-    word(b" header");
-    number(header.variables);
-    number(header.clauses);
-    match format {
-        Format::Plain => {}
-        Format::Weighted => number(header.third),
-        Format::Grouped => number(header.third),
-    }
-}
-
-fn clause_words(format: Format, extra: u64, lits: &[i32]) {
-    word(b" clause");
-    match format {
-        Format::Plain => {}
-        Format::Weighted => {
-            number(extra);
-            word(b":");
-        }
-        Format::Grouped => {
-            word(b" {");
-            io::print_decimal(STDOUT_FILENO, extra);
-            word(b"}:");
-        }
-    }
-    literals(lits);
-}
-
-// Number, place and k of a refusal that a text is given.
-fn refused_words(r: Refusal, count: usize) {
-    word(b" refused");
-    number(r.number as u64);
-    number(r.place as u64);
-    number(count as u64);
-}
-
-fn opening_words(opening: Opening, format: Format) {
-    match opening {
-        Opening::Header(header, _) => header_words(header, format),
-        Opening::NoHeader(_) => word(b" header none"),
-        Opening::Refused(refusal) => refused_words(refusal, 0),
-    }
-}
 
 // The number of a call's own refusal.
 fn call_refused(n: u8) {
@@ -116,12 +50,13 @@ fn turn_line(tray: Tray, area: &[u8], lits: &mut [i32]) -> Tray {
             last: _,
         } => {
             number(ticket);
+            word(b" ");
             match said {
-                Said::Opening(opening) => opening_words(opening, format),
+                Said::Opening(opening) => opening_words(opening, format, b"", b""),
                 Said::Next(next) => match next {
                     Next::Clause { extra, count } => clause_words(format, extra, &lits[..count]),
-                    Next::Ended => word(b" end"),
-                    Next::Refused { refusal, count } => refused_words(refusal, count),
+                    Next::Ended => word(b"end"),
+                    Next::Refused { refusal, count } => refused_words(refusal, count, b"", b""),
                 },
             }
         }

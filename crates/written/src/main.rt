@@ -6,13 +6,15 @@ ghost use mathlib.Core.Path.{_≡_};
 ghost use Prim.Native.Nat.{_+_, _≤_};
 ghost use lib.ListN.{length};
 ghost use Rattle.writer.specs.Answers.{lineLength};
+use console::cut;
+use console::number;
+use console::word;
 use dimacs::FORMAT_OR_MODE_UNKNOWN;
 use dimacs::Format;
 use dimacs::Header;
 use dimacs::LARGEST;
 use dimacs::Refusal;
 use libc::STDIN_FILENO;
-use libc::STDOUT_FILENO;
 use writer::Written;
 
 // The bytes of a frame before its literals.
@@ -25,25 +27,6 @@ struct Call {
     first: u64,
     second: u64,
     third: u64,
-}
-
-fn word(w: &[u8]) {
-    io::write_all(STDOUT_FILENO, w);
-}
-
-fn number(n: u64) {
-    word(b" ");
-    io::print_decimal(STDOUT_FILENO, n);
-}
-
-fn hex(b: u8) {
-    io::print_hex(STDOUT_FILENO, b as u64, 2);
-}
-
-fn hex_word(w: &[u8]) {
-    for i in 0..w.len() {
-        hex(w[i]);
-    }
 }
 
 // What the output holds at a place before a call. Neighbours differ, so that a byte that was moved is seen too.
@@ -83,16 +66,13 @@ fn line(out: &[u8], n: usize)
     word(b"written");
     number(n as u64);
     word(b" ");
-    hex_word(&out[..n]);
+    console::hex_word(&out[..n]);
     word(b"\n");
     rest(out, n);
 }
 
 fn refused(out: &[u8], r: Refusal) {
-    word(b"refused");
-    number(r.number as u64);
-    number(r.place as u64);
-    number(0);
+    console::refused_words(r, 0, b"", b"");
     word(b"\n");
     rest(out, 0);
 }
@@ -189,45 +169,10 @@ fn literals(lits: &mut [i32]) -> bool {
     true
 }
 
-// The input ends within a frame, so that no other may follow.
-fn cut() -> bool {
-    word(b"cut\n");
-    false
-}
-
 // A call once its literals came, and whether they did.
 fn framed(call: Call, lits: &mut [i32], out: &mut [u8]) -> bool {
     if literals(lits) {
         answer(call, lits, out);
-        return true;
-    }
-    cut()
-}
-
-// Passes over at most so many bytes, and tells over how many.
-fn skip_some(most: usize) -> usize {
-    let mut part = io::buffer();
-    let n = frame::smaller(most, part.len());
-    io::read_full(STDIN_FILENO, &mut part[..n])
-}
-
-// Passes over so many bytes, and tells whether they came.
-fn skip(length: usize) -> bool {
-    let mut left = length;
-    while 0 < left {
-        let got = skip_some(left);
-        if got == 0 {
-            return false;
-        }
-        left -= frame::smaller(got, left);
-    }
-    true
-}
-
-// A call of more literals than are taken.
-fn long(count: u32) -> bool {
-    word(b"long\n");
-    if skip(4 * (count as usize)) {
         return true;
     }
     cut()
@@ -240,17 +185,14 @@ fn one(case: u64, lits: &mut [i32], out: &mut [u8]) -> bool {
     if got == 0 {
         return false;
     }
-    word(b"case");
-    number(case);
-    word(b"\n");
+    console::case_line(case);
     if got < HEAD {
         return cut();
     }
     let lent = frame::smaller(u32_at(&head, 2) as usize, out.len());
-    let count = u32_at(&head, 30);
-    let given = count as usize;
+    let given = u32_at(&head, 30) as usize;
     if lits.len() < given {
-        return long(count);
+        return console::long(4 * given);
     }
     framed(call_of(&head), &mut lits[..given], &mut out[..lent])
 }

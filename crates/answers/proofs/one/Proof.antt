@@ -15,26 +15,11 @@ read-full-requires c κs = search needs
 returns : tie.Need-returns
 returns c = search needs
 
-slice-aggregate-word : tie.Need-slice-aggregate-word
-slice-aggregate-word c = search needs
+case-line-requires : tie.Need-case-line-requires
+case-line-requires c κs = search needs
 
-word-requires : tie.Need-word-requires
-word-requires c κs = search needs
-
-number-requires : tie.Need-number-requires
-number-requires c κs = search needs
-
-slice-aggregate-word-2 : tie.Need-slice-aggregate-word-2
-slice-aggregate-word-2 c = search needs
-
-word-requires-2 : tie.Need-word-requires-2
-word-requires-2 c κs = search needs
-
-slice-aggregate-word-3 : tie.Need-slice-aggregate-word-3
-slice-aggregate-word-3 c = search needs
-
-word-requires-3 : tie.Need-word-requires-3
-word-requires-3 c κs = search needs
+cut-requires : tie.Need-cut-requires
+cut-requires c κs = search needs
 
 returns-2 : tie.Need-returns-2
 returns-2 c = search needs
@@ -75,8 +60,8 @@ le32-requires-2 c κs = search needs
 cast-length : tie.Need-cast-length
 cast-length c = search needs
 
-long-text-requires : tie.Need-long-text-requires
-long-text-requires c κs = search needs
+long-requires : tie.Need-long-requires
+long-requires c κs = search needs
 
 returns-3 : tie.Need-returns-3
 returns-3 c = search needs
@@ -88,7 +73,7 @@ slice-relend-prefix-text-lines : tie.Need-slice-relend-prefix-text-lines
 slice-relend-prefix-text-lines c = search needs
 
 slice-aggregate-text-lines : tie.Need-slice-aggregate-text-lines
-slice-aggregate-text-lines c = sym (length-take-le _ (c .before .before .before .before .before .before .before .before .before .before .before .before .before .before .before .before .args .text .now) (omega arith))
+slice-aggregate-text-lines c = sym (length-take-le _ (c .before .before .before .before .before .before .before .before .before .before .before .before .args .text .now) (omega arith))
 
 array-read-text-lines : tie.Need-array-read-text-lines
 array-read-text-lines c = search needs
@@ -100,7 +85,7 @@ slice-relend-prefix-text-lines-2 : tie.Need-slice-relend-prefix-text-lines-2
 slice-relend-prefix-text-lines-2 c = search needs
 
 slice-aggregate-text-lines-2 : tie.Need-slice-aggregate-text-lines-2
-slice-aggregate-text-lines-2 c = sym (length-take-le _ (c .before .before .before .before .before .before .before .before .before .before .before .before .before .before .before .before .before .args .lits .now) (omega arith))
+slice-aggregate-text-lines-2 c = sym (length-take-le _ (c .before .before .before .before .before .before .before .before .before .before .before .before .before .args .lits .now) (omega arith))
 
 text-lines-requires : tie.Need-text-lines-requires
 text-lines-requires c κs = search needs
@@ -121,13 +106,8 @@ one-spec =
     slice-aggregate-read-full
     read-full-requires
     returns
-    slice-aggregate-word
-    word-requires
-    number-requires
-    slice-aggregate-word-2
-    word-requires-2
-    slice-aggregate-word-3
-    word-requires-3
+    case-line-requires
+    cut-requires
     returns-2
     array-read-le32
     array-read-le32-2
@@ -141,7 +121,7 @@ one-spec =
     array-read-le32-8
     le32-requires-2
     cast-length
-    long-text-requires
+    long-requires
     returns-3
     smaller-requires
     slice-relend-prefix-text-lines

@@ -40,6 +40,12 @@ word-requires-2 c κs = search needs
 enum-known-said : tie.Need-enum-known-said
 enum-known-said c = search needs
 
+slice-aggregate-opening-words : tie.Need-slice-aggregate-opening-words
+slice-aggregate-opening-words c = search needs
+
+slice-aggregate-opening-words-2 : tie.Need-slice-aggregate-opening-words-2
+slice-aggregate-opening-words-2 c = search needs
+
 opening-words-requires : tie.Need-opening-words-requires
 opening-words-requires c κs = search needs
 
@@ -69,6 +75,12 @@ word-requires-3 c κs = search needs
 
 enum-known-next-2 : tie.Need-enum-known-next-2
 enum-known-next-2 c = search needs
+
+slice-aggregate-refused-words : tie.Need-slice-aggregate-refused-words
+slice-aggregate-refused-words c = search needs
+
+slice-aggregate-refused-words-2 : tie.Need-slice-aggregate-refused-words-2
+slice-aggregate-refused-words-2 c = search needs
 
 refused-words-requires : tie.Need-refused-words-requires
 refused-words-requires c κs = search needs
@@ -118,6 +130,8 @@ turn-line-spec =
     slice-aggregate-word-2
     word-requires-2
     enum-known-said
+    slice-aggregate-opening-words
+    slice-aggregate-opening-words-2
     opening-words-requires
     enum-known-said-2
     enum-known-next
@@ -128,6 +142,8 @@ turn-line-spec =
     slice-aggregate-word-3
     word-requires-3
     enum-known-next-2
+    slice-aggregate-refused-words
+    slice-aggregate-refused-words-2
     refused-words-requires
     mul-since
     element-copy-out-since

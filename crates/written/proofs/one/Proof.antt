@@ -15,20 +15,8 @@ read-full-requires c κs = search needs
 returns : tie.Need-returns
 returns c = search needs
 
-slice-aggregate-word : tie.Need-slice-aggregate-word
-slice-aggregate-word c = search needs
-
-word-requires : tie.Need-word-requires
-word-requires c κs = search needs
-
-number-requires : tie.Need-number-requires
-number-requires c κs = search needs
-
-slice-aggregate-word-2 : tie.Need-slice-aggregate-word-2
-slice-aggregate-word-2 c = search needs
-
-word-requires-2 : tie.Need-word-requires-2
-word-requires-2 c κs = search needs
+case-line-requires : tie.Need-case-line-requires
+case-line-requires c κs = search needs
 
 cut-requires : tie.Need-cut-requires
 cut-requires c κs = search needs
@@ -57,6 +45,9 @@ u32-at-requires-2 c κs = search needs
 cast-given : tie.Need-cast-given
 cast-given c = search needs
 
+mul-long : tie.Need-mul-long
+mul-long c = search needs
+
 long-requires : tie.Need-long-requires
 long-requires c κs = search needs
 
@@ -73,13 +64,13 @@ slice-relend-prefix-framed : tie.Need-slice-relend-prefix-framed
 slice-relend-prefix-framed c = search needs
 
 slice-aggregate-framed : tie.Need-slice-aggregate-framed
-slice-aggregate-framed c = sym (length-take-le _ (c .before .before .before .before .before .before .before .before .before .before .before .before .before .before .before .before .before .before .before .before .args .lits .now) (omega arith))
+slice-aggregate-framed c = sym (length-take-le _ (c .before .before .before .before .before .before .before .before .before .before .before .before .before .before .before .before .args .lits .now) (omega arith))
 
 slice-relend-prefix-framed-2 : tie.Need-slice-relend-prefix-framed-2
 slice-relend-prefix-framed-2 c = search needs
 
 slice-aggregate-framed-2 : tie.Need-slice-aggregate-framed-2
-slice-aggregate-framed-2 c = sym (length-take-le _ (c .before .before .before .before .before .before .before .before .before .before .before .before .before .before .before .before .before .before .before .before .before .args .out .now) (omega arith))
+slice-aggregate-framed-2 c = sym (length-take-le _ (c .before .before .before .before .before .before .before .before .before .before .before .before .before .before .before .before .before .args .out .now) (omega arith))
 
 framed-requires : tie.Need-framed-requires
 framed-requires c κs = search needs
@@ -100,11 +91,7 @@ one-spec =
     slice-aggregate-read-full
     read-full-requires
     returns
-    slice-aggregate-word
-    word-requires
-    number-requires
-    slice-aggregate-word-2
-    word-requires-2
+    case-line-requires
     cut-requires
     returns-2
     slice-aggregate-u32-at
@@ -114,6 +101,7 @@ one-spec =
     slice-aggregate-u32-at-2
     u32-at-requires-2
     cast-given
+    mul-long
     long-requires
     returns-3
     slice-aggregate-call-of

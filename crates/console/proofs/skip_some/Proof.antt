@@ -1,10 +1,10 @@
--- `answers::skip_some` lends no more of the buffer than it has. Assumes nothing.
+-- `console::skip_some` lends no more of the buffer than it has. Assumes nothing.
 use mathlib.Core.Path.{sym}
 use lib.Seq.{length-take-le}
 use borrow.Author.Needs.{needs}
 use native.Mathlib.Omega.{arith}
-use Rattle.answers.proofs.skip_some.Statement.{statement}
-use Rattle.answers.proofs.skip_some.Tie as tie
+use Rattle.console.proofs.skip_some.Statement.{statement}
+use Rattle.console.proofs.skip_some.Tie as tie
 
 buffer-requires : tie.Need-buffer-requires
 buffer-requires c κs = search needs

@@ -1,9 +1,9 @@
--- `rounds::literals` ends: what is left of it falls. Assumes nothing.
+-- `console::literals` ends: what is left of it falls. Assumes nothing.
 use Prim.Native.Nat.{_-_, _≤_}
 use lib.ListN.{length}
 use borrow.Author.Needs.{needs}
-use Rattle.rounds.proofs.literals.Statement.{statement}
-use Rattle.rounds.proofs.literals.Tie as tie
+use Rattle.console.proofs.literals.Statement.{statement}
+use Rattle.console.proofs.literals.Tie as tie
 
 abbrev Inv-loop : tie.InvT-loop
 Inv-loop lits i₀ i-end i = i ≤ length lits

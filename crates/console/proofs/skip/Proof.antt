@@ -1,8 +1,8 @@
--- `written::skip` ends: the bytes left fall. Assumes nothing.
+-- `console::skip` ends: the bytes left fall. Assumes nothing.
 use borrow.Author.Needs.{needs}
 use native.Mathlib.Omega.{arith}
-use Rattle.written.proofs.skip.Statement.{statement}
-use Rattle.written.proofs.skip.Tie as tie
+use Rattle.console.proofs.skip.Statement.{statement}
+use Rattle.console.proofs.skip.Tie as tie
 
 abbrev Inv-loop : tie.InvT-loop
 Inv-loop length left₀ left = Unit {0}

@@ -1,9 +1,9 @@
--- `answers::hex_word` ends: what is left of it falls. Assumes nothing.
+-- `console::hex_word` ends: what is left of it falls. Assumes nothing.
 use Prim.Native.Nat.{_-_, _≤_}
 use lib.ListN.{length}
 use borrow.Author.Needs.{needs}
-use Rattle.answers.proofs.hex_word.Statement.{statement}
-use Rattle.answers.proofs.hex_word.Tie as tie
+use Rattle.console.proofs.hex_word.Statement.{statement}
+use Rattle.console.proofs.hex_word.Tie as tie
 
 abbrev Inv-loop : tie.InvT-loop
 Inv-loop w i₀ i-end i = i ≤ length w
