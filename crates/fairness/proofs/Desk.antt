@@ -15,17 +15,18 @@ use Rattle.dimacs.proofs.Tests.{tested}
 use Rattle.dimacs.proofs.Buffer as buffer
 use Rattle.rota.specs.Rota as rota
 use Rattle.rota.specs.Rota.{Call, put, turn, withdraw, told, ticketed, withdrawn, Done, does, Round, round, Entry, bad, good, Desk, waits, without}
-use Rattle.tray.specs.declared.Stage.{Stage}
+use Rattle.service.specs.declared.Stage.{Stage}
 use Rattle.tray.specs.declared.Job.{Job}
 use Rattle.tray.specs.declared.Tray.{Tray}
 use Rattle.tray.specs.declared.Named.{Named}
 use Rattle.tray.specs.declared.Named.the-variants as named
 use Rattle.tray.specs.declared.PutDone.{PutDone}
-use Rattle.tray.specs.declared.Goes.{Goes}
-use Rattle.tray.specs.declared.Goes.the-variants.{On, Over}
+use Rattle.service.specs.declared.Goes.{Goes}
+use Rattle.service.specs.declared.Goes.the-variants.{On, Over}
 use Rattle.tray.specs.declared.TurnDone.{TurnDone}
 use Rattle.tray.specs.Ring as ring
-use Rattle.tray.specs.Ring.{few, waiting, behind, front, within, Put, namedBy, jobOf, entered, Reply, opening, answering, saidOf, literalsIn, Serving, serve, goesOn, went, turnOf, bufferOf, ahead, withdrawOf}
+use Rattle.service.specs.Serving.{within, Reply, opening, answering, saidOf, literalsIn, Serving}
+use Rattle.tray.specs.Ring.{few, waiting, behind, front, Put, namedBy, jobOf, entered, serve, goesOn, went, turnOf, bufferOf, ahead, withdrawOf}
 use Rattle.tray.specs.Answers.{putSays, replyIn, turnSays, withdrawSays}
 use Rattle.fairness.specs.Promises.{Lent, did}
 use Rattle.fairness.proofs.Rings.{length-ring, ring-mod, ring-more, removed, taken-ring}

@@ -6,7 +6,8 @@ use Rattle.rota.specs.Rota as rota
 use Rattle.rota.specs.Rota.{Done, does, answers, ticketed}
 use Rattle.tray.specs.declared.Tray.{Tray}
 use Rattle.tray.specs.declared.PutAnswer.the-variants as putting
-use Rattle.tray.specs.Ring.{emptyTray, Put, Reply}
+use Rattle.service.specs.Serving.{Reply}
+use Rattle.tray.specs.Ring.{emptyTray, Put}
 use Rattle.fairness.specs.Promises.{did, thenPut, since}
 use Rattle.fairness.specs.Lending.{Event, put, turn, withdraw, callIn, saidIn, leftIn, Keeps, Kept, finally, said, called, LentAccount, Went, LentBound, LentContent, LentDemand}
 use Rattle.fairness.proofs.Promises.{tray-account, tray-bound, tray-content}

@@ -19,15 +19,16 @@ use Rattle.rota.proofs.Gone.{no-more}
 use Rattle.rota.proofs.Waiting.{Stands}
 use Rattle.rota.proofs.Fair.{entered, fair}
 use Rattle.rota.proofs.Alone.{alone}
-use Rattle.tray.specs.declared.Stage.the-variants as stage
+use Rattle.service.specs.declared.Stage.the-variants as stage
 use Rattle.tray.specs.declared.Job.{Job}
 use Rattle.tray.specs.declared.Tray.{Tray}
 use Rattle.tray.specs.declared.Named.{Named}
 use Rattle.tray.specs.declared.Named.the-variants as named
-use Rattle.tray.specs.declared.Goes.{Goes}
-use Rattle.tray.specs.declared.Goes.the-variants.{On, Over}
-use Rattle.tray.specs.declared.Said.{Said}
-use Rattle.tray.specs.Ring.{emptyTray, few, waiting, behind, front, within, Put, putBy, namedBy, jobOf, entered as enteredAs, Reply, serve, servedOf, goesOn, wentBy, turnOf, Turns, ahead, withdrawOf}
+use Rattle.service.specs.declared.Goes.{Goes}
+use Rattle.service.specs.declared.Goes.the-variants.{On, Over}
+use Rattle.service.specs.declared.Said.{Said}
+use Rattle.service.specs.Serving.{within, Reply, servedOf}
+use Rattle.tray.specs.Ring.{emptyTray, few, waiting, behind, front, Put, putBy, namedBy, jobOf, entered as enteredAs, serve, goesOn, wentBy, turnOf, Turns, ahead, withdrawOf}
 use Rattle.tray.specs.declared.TurnDone.{TurnDone}
 use Rattle.tray.specs.Answers.{turnSays}
 use Rattle.fairness.specs.Promises.{Lent, Calls, did, answered, left, thenPut, since, Holds, saidAlone, Account, Tickets, Few, Bound, Content, Demand, Silence}

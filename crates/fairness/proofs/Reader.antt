@@ -29,12 +29,13 @@ use Rattle.formula.proofs.Runs.{Leads, leads}
 use Rattle.rota.specs.Rota.{Entry, bad, good, Served, serves}
 use Rattle.rota.proofs.Tickets.{Lawful}
 use Rattle.rota.proofs.Alone.{Whole, last, whole-more}
-use Rattle.tray.specs.declared.Stage.{Stage}
-use Rattle.tray.specs.declared.Stage.the-variants as stage
+use Rattle.service.specs.declared.Stage.{Stage}
+use Rattle.service.specs.declared.Stage.the-variants as stage
 use Rattle.tray.specs.declared.Job.{Job}
-use Rattle.tray.specs.declared.Goes.{Goes}
-use Rattle.tray.specs.declared.Goes.the-variants.{On, Over}
-use Rattle.tray.specs.Ring.{within, part, Put, namedBy, jobOf, Reply, opening, answering, openingGoes, nextGoes, serving, serve, goesOn}
+use Rattle.service.specs.declared.Goes.{Goes}
+use Rattle.service.specs.declared.Goes.the-variants.{On, Over}
+use Rattle.service.specs.Serving.{within, Reply, opening, answering, openingGoes, nextGoes, serving, servedPart}
+use Rattle.tray.specs.Ring.{part, Put, namedBy, jobOf, serve, goesOn}
 use Rattle.fairness.specs.Promises.{Lent, Holds, saidAlone}
 use Rattle.fairness.proofs.Desk.{entryBy, goesBy, servedBy, desk}
 
@@ -70,7 +71,7 @@ record GoesOn (j : Job) (area : List ℕ) (j′ : Job) : Type 0 where
   served : serving (part j area) ownRoom (j .stage) .goes ≡ On cursor
 
 serve-goes : (j : Job) (e : Lent) (j′ : Job) → desk .serve j e .goes ≡ some j′ → GoesOn j (e .area) j′
-unfolding serve
+unfolding serve servedPart
 serve-goes j e j′ h =
     tested (within (j .start) (j .length) (length (e .area)))
     (λ w.
@@ -133,7 +134,7 @@ module _ (bytes : List ℕ) where
   solo j = servedBy j (serving bytes ownRoom (j .stage))
 
   pub alike : (p : Put) (j : Job) (e : Lent) → PartOf p j → Holds p bytes e → desk .serve j e ≡ solo j
-  unfolding serve
+  unfolding serve servedPart
   alike p j e o h =
       let w : within (j .start) (j .length) (length (e .area)) ≡ true = rw (o .0, o .1) (le-leb (p .start + p .length) (length (e .area)) (h .within)) in
       let s : part j (e .area) ≡ bytes = rw (o .0, o .1) (h .same) in

@@ -16,7 +16,8 @@ use Rattle.tray.specs.declared.PutAnswer.{PutAnswer}
 use Rattle.tray.specs.declared.PutAnswer.the-variants as putting
 use Rattle.tray.specs.declared.TurnAnswer.{TurnAnswer}
 use Rattle.tray.specs.declared.WithdrawAnswer.{WithdrawAnswer}
-use Rattle.tray.specs.Ring.{emptyTray, waiting, Put, Reply}
+use Rattle.service.specs.Serving.{Reply}
+use Rattle.tray.specs.Ring.{emptyTray, waiting, Put}
 use Rattle.tray.specs.Answers.{putSays, turnSays, withdrawSays}
 use Rattle.lent_tray.specs.Lent.{Puts, Turns, Withdraws}
 use Rattle.fairness.specs.Promises.{Lent, Calls, Holds, saidAlone}

@@ -12,7 +12,8 @@ use Rattle.dimacs.specs.declared.Format.{Format}
 use Rattle.dimacs.specs.declared.Mode.{Mode}
 use Rattle.rota.specs.Rota.{Call, put, turn, withdraw, Answer, ticketed, Done, does, answers, finally, tickets, upward, verdicts, withdrawals, isWithdrawn, turns, heard, toTheLast, concluded, AtOwnTurns, Hears}
 use Rattle.tray.specs.declared.Tray.{Tray}
-use Rattle.tray.specs.Ring.{emptyTray, waiting, Put, putOf, Reply, opening, answering, turnOf, bufferOf, withdrawOf}
+use Rattle.service.specs.Serving.{Reply, opening, answering}
+use Rattle.tray.specs.Ring.{emptyTray, waiting, Put, putOf, turnOf, bufferOf, withdrawOf}
 use Rattle.tray.specs.Answers.{putSays, turnSays, withdrawSays}
 
 -- What a turn is lent.

@@ -14,11 +14,11 @@ use console::word;
 use dimacs::Format;
 use dimacs::PLACES;
 use dimacs::ROOM;
+use service::Said;
+use service::Stage;
 use tray::Job;
 use tray::PutAnswer;
 use tray::PutDone;
-use tray::Said;
-use tray::Stage;
 use tray::Tray;
 use tray::TurnAnswer;
 

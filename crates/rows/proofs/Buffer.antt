@@ -1,18 +1,23 @@
 -- The loop over a row: those read so far stand at the front of the buffer, and the row from here on is the row from the start. Assumes nothing.
 use Prim.Native.Nat.{ℕ, _+_, _≤_, _<_}
 use mathlib.Core.List.{List, [], _∷_, _++_}
-use mathlib.Core.Path.{_≡_, refl, _∙_}
+use mathlib.Core.Path.{_≡_, refl, sym, _∙_}
 use native.Mathlib.Numerals.{add-one}
 use native.Mathlib.Omega.{arith}
 use lib.ListN.{length, take, set}
 use lib.Seq.{take-all, take-length, take-suc-set}
 use lib.IntN.{ℤ}
-use Rattle.dimacs.specs.Rows.{ends, closes, stops, reads, row}
+use Rattle.dimacs.specs.Rows.{Row, ends, closes, stops, reads, row}
 use Rattle.dimacs.specs.declared.Refusal.{Refusal}
 use Rattle.dimacs.proofs.Buffer as buffer
 use Rattle.dimacs.proofs.Buffer.{Kept, unchanged, counted, in-place}
 use Rattle.rows.specs.Answers.{Reads}
+use Rattle.rows.specs.declared.Row as answer
 use Rattle.rows.specs.declared.Row.the-variants.{Ends, Closes, Stops}
+
+-- Two permitted answers are equal, and so are the buffers after them.
+pub one-row : {d : Row} {old n₁ n₂ : List ℤ} {r₁ r₂ : answer.Row} → Reads d old n₁ r₁ → Reads d old n₂ r₂ → (r₁ ≡ r₂) × (n₁ ≡ n₂)
+one-row p q = (p .row ∙ sym (q .row), p .buffer ∙ sym (q .buffer))
 
 pub record Held (s : List ℕ) (limit at held : ℕ) (old lits : List ℤ) (place count : ℕ) : Type 0 where
   pub kept : Kept old lits count

@@ -13,17 +13,18 @@ use Rattle.dimacs.specs.Clauses as def
 use Rattle.dimacs.proofs.Tests.{chosen}
 use Rattle.clause.specs.declared.Next.{Next}
 use Rattle.formula.proofs.Runs.{CountFits}
-use Rattle.tray.specs.declared.Said.{Said}
-use Rattle.tray.specs.declared.Said.the-variants as said
-use Rattle.tray.specs.declared.Goes.{Goes}
-use Rattle.tray.specs.declared.Goes.the-variants.{On, Over}
+use Rattle.service.specs.declared.Said.{Said}
+use Rattle.service.specs.declared.Said.the-variants as said
+use Rattle.service.specs.declared.Goes.{Goes}
+use Rattle.service.specs.declared.Goes.the-variants.{On, Over}
 use Rattle.tray.specs.declared.Tray.{Tray}
 use Rattle.tray.specs.declared.Job.{Job}
 use Rattle.tray.specs.declared.TurnAnswer.{TurnAnswer}
 use Rattle.tray.specs.declared.TurnAnswer.the-variants as turning
 use Rattle.tray.specs.declared.TurnDone.{TurnDone}
-use Rattle.tray.specs.Ring.{Reply, opening, answering, saidOf, literalsIn, Serving, within, part, serving, serve, servedOf, front, wentBy, turnOf, Turns}
-use Rattle.tray.proofs.Ring.{serving-fits}
+use Rattle.service.specs.Serving.{Reply, opening, answering, saidOf, literalsIn, servedOf}
+use Rattle.service.proofs.Serving.{part-fits}
+use Rattle.tray.specs.Ring.{serve, front, wentBy, turnOf, Turns}
 
 -- The literals that are said to be read are at most so many.
 abbrev SaidFits : ℕ → Said → Type 0
@@ -43,10 +44,7 @@ reply-fits room (answering (def.refused r so)) h = h
 
 served-fits : (area : List ℕ) (j : Job) → length (literalsIn (serve area j .said)) ≤ ownRoom
 unfolding serve
-served-fits area j =
-    chosen (λ (v : Serving). length (literalsIn (v .said)) ≤ ownRoom) (within (j .start) (j .length) (length area))
-    (λ e. serving-fits (part j area) ownRoom (j .stage))
-    (λ e. omega arith)
+served-fits area j = part-fits area (j .start) (j .length) ownRoom (j .stage)
 
 went-fits : (t : Tray) (room : ℕ) (a : Said) (g : Goes) → SaidFits room a → ToldFits room (wentBy t a g .answer)
 went-fits t room a (On c) h = h

@@ -6,15 +6,15 @@ use Rattle.dimacs.specs.Clauses as def
 use Rattle.clause.specs.declared.Next.{Next}
 use Rattle.clause.specs.declared.Next.the-variants as next
 use Rattle.rota.specs.Rota.{Answer, refused, ticketed, told, withdrawn}
-use Rattle.tray.specs.declared.Said.{Said}
-use Rattle.tray.specs.declared.Said.the-variants as said
+use Rattle.service.specs.declared.Said.{Said}
+use Rattle.service.specs.declared.Said.the-variants as said
 use Rattle.tray.specs.declared.PutAnswer.{PutAnswer}
 use Rattle.tray.specs.declared.PutAnswer.the-variants as putting
 use Rattle.tray.specs.declared.TurnAnswer.{TurnAnswer}
 use Rattle.tray.specs.declared.TurnAnswer.the-variants as turning
 use Rattle.tray.specs.declared.WithdrawAnswer.{WithdrawAnswer}
 use Rattle.tray.specs.declared.WithdrawAnswer.the-variants as withdrawing
-use Rattle.tray.specs.Ring.{Reply, opening, answering}
+use Rattle.service.specs.Serving.{Reply, opening, answering}
 
 -- An answer to a put.
 abbrev pub putSays : PutAnswer → Answer Reply

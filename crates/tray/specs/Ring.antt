@@ -7,34 +7,26 @@ use mathlib.Core.Path.{_≡_}
 use lib.ListN.{length, getD, set, take, drop, replicate}
 use lib.Dec.{leb, ltb, eqb}
 use lib.IntN.{ℤ}
-use Rattle.dimacs.specs.Names.{Reason, numberOf, callRefusal, formatOf, modeOf, largest, ownRoom, places}
-use Rattle.dimacs.specs.Clauses.{Answer, refused, laid}
+use Rattle.dimacs.specs.Names.{Reason, numberOf, formatOf, modeOf, largest, ownRoom, places}
+use Rattle.dimacs.specs.Clauses.{laid}
 use Rattle.dimacs.specs.declared.Format.{Format}
 use Rattle.dimacs.specs.declared.Format.the-variants.{Plain}
 use Rattle.dimacs.specs.declared.Mode.{Mode}
 use Rattle.dimacs.specs.declared.Mode.the-variants.{Strict}
-use Rattle.dimacs.specs.declared.Opening.{Opening}
-use Rattle.dimacs.specs.declared.Opening.the-variants as how
-use Rattle.clause.specs.Answers.{nextOf, leftBy}
-use Rattle.clause.specs.declared.Next.{Next}
-use Rattle.clause.specs.declared.Next.the-variants as next
-use Rattle.formula.specs.Cursors.{openedAs, answerFrom, stepOf}
 use Rattle.formula.specs.declared.Cursor.{Cursor}
-use Rattle.formula.specs.declared.Opened.{Opened}
-use Rattle.formula.specs.declared.Stepped.{Stepped}
-use Rattle.tray.specs.declared.Stage.{Stage}
-use Rattle.tray.specs.declared.Stage.the-variants as stage
+use Rattle.service.specs.declared.Stage.{Stage}
+use Rattle.service.specs.declared.Stage.the-variants as stage
 use Rattle.tray.specs.declared.Job.{Job}
 use Rattle.tray.specs.declared.Tray.{Tray}
 use Rattle.tray.specs.declared.Named.{Named}
 use Rattle.tray.specs.declared.Named.the-variants as named
 use Rattle.tray.specs.declared.PutAnswer.the-variants as putting
 use Rattle.tray.specs.declared.PutDone.{PutDone}
-use Rattle.tray.specs.declared.Said.{Said}
-use Rattle.tray.specs.declared.Said.the-variants as said
-use Rattle.tray.specs.declared.Goes.{Goes}
-use Rattle.tray.specs.declared.Goes.the-variants.{On, Over}
-use Rattle.tray.specs.declared.Served.{Served}
+use Rattle.service.specs.declared.Said.{Said}
+use Rattle.service.specs.declared.Goes.{Goes}
+use Rattle.service.specs.declared.Goes.the-variants.{On, Over}
+use Rattle.service.specs.declared.Served.{Served}
+use Rattle.service.specs.Serving.{within, literalsIn, Serving, servedPart, servedOf}
 use Rattle.tray.specs.declared.TurnAnswer.the-variants as turning
 use Rattle.tray.specs.declared.TurnDone.{TurnDone}
 use Rattle.tray.specs.declared.WithdrawAnswer.the-variants as withdrawing
@@ -74,10 +66,6 @@ module _ (t : Tray) where
   abbrev pub front : Job
   front = getD (t .jobs) (t .head % places) noJob
 
--- A part stands within an area of some length.
-abbrev pub within : ℕ → ℕ → ℕ → Bool
-within start size lent = leb (start + size) lent
-
 -- What a put names: the numbers of a format and a mode, and a part of an area of the length that is lent.
 pub record Put : Type 0 where
   pub format : ℕ
@@ -116,71 +104,13 @@ putBy t p (named.Begins s) = cond (within (p .start) (p .length) (p .lent)) (ent
 abbrev pub putOf : Tray → Put → PutDone
 putOf t p = putBy t p (namedBy (formatOf (p .format)) (modeOf (p .mode)))
 
--- What is said of a text at a turn, with its literals: how it opens, or the answer to a call for the next clause.
-pub data Reply : Type 0 where
-  opening : Opening → Reply
-  answering : Answer → Reply
-
--- In the answer of a turn the literals are counted.
-abbrev pub saidOf : Reply → Said
-saidOf (opening o) = said.Opening o
-saidOf (answering a) = said.Next (nextOf a)
-
--- The literals stand in the buffer.
-abbrev pub literalsIn : Reply → List ℤ
-literalsIn (opening o) = []
-literalsIn (answering a) = leftBy a
-
--- Serving a job: what is said, and the cursor with which it goes on, unless that is its verdict.
-pub record Serving : Type 0 where
-  pub said : Reply
-  pub goes : Goes
-
--- A refused header is a verdict.
-abbrev pub openingGoes : Cursor → Opening → Goes
-openingGoes c (how.Header h at) = On c
-openingGoes c (how.NoHeader at) = On c
-openingGoes c (how.Refused r) = Over
-
--- So is the end, and a refusal.
-abbrev pub nextGoes : Cursor → Next → Goes
-nextGoes c (next.Clause extra n) = On c
-nextGoes c next.Ended = Over
-nextGoes c (next.Refused r n) = Over
-
--- A job served by an opening.
-abbrev pub openingServed : Opened → Served
-openingServed o = record { said = said.Opening (o .opening); goes = openingGoes (o .cursor) (o .opening) }
-
--- A job served by a call for the next clause.
-abbrev pub stepServed : Stepped → Served
-stepServed x = record { said = said.Next (x .answer); goes = nextGoes (x .cursor) (x .answer) }
-
--- A job is served on its own text: its first turn opens it, each later one asks for the next clause.
-unfoldable pub serving : List ℕ → ℕ → Stage → Serving
-serving s room (stage.Fresh f m) = let o = openedAs f m s in record { said = opening (o .opening); goes = openingServed o .goes }
-serving s room (stage.Reading c) = record { said = answering (answerFrom s room c .answer); goes = stepServed (stepOf s room c) .goes }
-
--- A job whose part is outside the area is refused.
-abbrev pub outside : Serving
-outside = record { said = answering (refused (callRefusal Reason.partOutsideArea 0) []); goes = Over }
-
 -- A job's own part of an area.
 abbrev pub part : Job → List ℕ → List ℕ
 part j area = take (j .length) (drop (j .start) area)
 
 -- Serving a job with an area.
 unfoldable pub serve : List ℕ → Job → Serving
-serve area j = cond (within (j .start) (j .length) (length area)) (serving (part j area) ownRoom (j .stage)) outside
-
--- What is said and how the job goes on, with the literals counted.
-abbrev pub servedOf : Serving → Served
-servedOf v = record { said = saidOf (v .said); goes = v .goes }
-
--- Serving leaves the literals in the buffer.
-pub record Serves (v : Serving) (old new : List ℤ) (r : Served) : Type 0 where
-  pub answer : r ≡ servedOf v
-  pub buffer : new ≡ laid (literalsIn (v .said)) old
+serve area j = servedPart area (j .start) (j .length) ownRoom (j .stage)
 
 -- A job with the cursor with which it goes on.
 abbrev pub goesOn : Job → Cursor → Job

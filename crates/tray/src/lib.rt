@@ -6,33 +6,26 @@ ghost use mathlib.Core.Path.{_≡_};
 ghost use mathlib.Core.Option.{some};
 ghost use Prim.Native.Nat.{_≤_, _<_, min};
 ghost use lib.ListN as list;
-ghost use Rattle.dimacs.specs.Names.{formatOf, modeOf, ownRoom, places};
+ghost use Rattle.dimacs.specs.Names.{formatOf, modeOf, places};
 ghost use Rattle.tray.specs.Ring as ring;
-ghost use Rattle.tray.specs.Ring.{emptyTray, namedBy, entered, putOf, openingServed, stepServed, serving, Serves, went, Turns, ahead, closedUp, withdrawOf};
-use clause::Next;
+ghost use Rattle.tray.specs.Ring.{emptyTray, namedBy, entered, putOf, went, Turns, ahead, closedUp, withdrawOf};
 use dimacs::BUFFER_TOO_SHORT;
 use dimacs::FORMAT_OR_MODE_UNKNOWN;
 use dimacs::Format;
 use dimacs::LARGEST;
 use dimacs::Mode;
 use dimacs::NOTHING_WAITS;
-use dimacs::Opening;
 use dimacs::PART_OUTSIDE_AREA;
 use dimacs::PLACES;
 use dimacs::ROOM;
-use dimacs::Refusal;
 use dimacs::TICKET_NOT_WAITING;
 use dimacs::TICKETS_USED_UP;
 use dimacs::TRAY_FULL;
 use formula::Cursor;
-use formula::Opened;
-use formula::Stepped;
-
-// A job before its first turn, with its format and mode, or between turns, with its cursor.
-pub enum Stage {
-    Fresh(Format, Mode),
-    Reading(Cursor),
-}
+use service::Goes;
+use service::Said;
+use service::Served;
+use service::Stage;
 
 // A job: its ticket, the part of the area that is its text, and how far that is read.
 pub struct Job {
@@ -66,16 +59,6 @@ pub fn empty() -> Tray
         count: 0,
         given: 0,
     }
-}
-
-// Whether a part stands within an area of some length.
-fn within(start: usize, length: usize, lent: usize) -> bool
-    ensures { λ r. ⌜ r ≡ ring.within start length lent ⌝ }
-{
-    if start <= lent {
-        return length <= lent - start;
-    }
-    false
 }
 
 // What a put answers: a refusal's number, or the new ticket.
@@ -161,7 +144,7 @@ pub fn put(tray: Tray, format: u8, mode: u8, start: usize, length: usize, area: 
             answer: PutAnswer::Refused(FORMAT_OR_MODE_UNKNOWN),
         },
         Named::Begins(stage) => {
-            if within(start, length, area.len()) {
+            if service::within(start, length, area.len()) {
                 return enter(tray, start, length, stage);
             }
             PutDone {
@@ -169,105 +152,6 @@ pub fn put(tray: Tray, format: u8, mode: u8, start: usize, length: usize, area: 
                 answer: PutAnswer::Refused(PART_OUTSIDE_AREA),
             }
         }
-    }
-}
-
-// What the reader said at a turn: how the text opens, or the answer to a call for the next clause.
-pub enum Said {
-    Opening(Opening),
-    Next(Next),
-}
-
-// Whether a job goes on, with its cursor.
-pub enum Goes {
-    On(Cursor),
-    Over,
-}
-
-// What was said to a job, and how it goes on.
-pub struct Served {
-    pub said: Said,
-    pub goes: Goes,
-}
-
-// A job served by an opening: a refused header is its verdict.
-fn opened(o: Opened) -> Served
-    ensures { λ r. ⌜ r ≡ openingServed o ⌝ }
-{
-    let opening = o.opening;
-    let cursor = o.cursor;
-    let said = Said::Opening(opening);
-    match opening {
-        Opening::Header(_, _) => Served {
-            said,
-            goes: Goes::On(cursor),
-        },
-        Opening::NoHeader(_) => Served {
-            said,
-            goes: Goes::On(cursor),
-        },
-        Opening::Refused(_) => Served {
-            said,
-            goes: Goes::Over,
-        },
-    }
-}
-
-// A job served by a call for the next clause: the end, or a refusal, is its verdict.
-fn stepped(s: Stepped) -> Served
-    ensures { λ r. ⌜ r ≡ stepServed s ⌝ }
-{
-    let answer = s.answer;
-    let after = s.cursor;
-    let said = Said::Next(answer);
-    match answer {
-        Next::Clause { extra: _, count: _ } => Served {
-            said,
-            goes: Goes::On(after),
-        },
-        Next::Ended => Served {
-            said,
-            goes: Goes::Over,
-        },
-        Next::Refused {
-            refusal: _,
-            count: _,
-        } => Served {
-            said,
-            goes: Goes::Over,
-        },
-    }
-}
-
-// A job's text is opened at its first turn, and asked for the next clause at each later one.
-fn read(stage: Stage, text: &[u8], lits: &mut [i32]) -> Served
-    ensures { λ r. ⌜ Serves (serving (now (text .entry)) (list.length (now (lits .entry))) stage) (now (lits .entry)) (now (lits .exit)) r ⌝ }
-{
-    match stage {
-        Stage::Fresh(format, mode) => opened(formula::open_as(text, format, mode)),
-        Stage::Reading(cursor) => stepped(cursor.next_clause(text, lits)),
-    }
-}
-
-// A job is served on its own part of the area, with the first places of the buffer. A part outside the area is refused.
-fn serve(job: Job, area: &[u8], lits: &mut [i32]) -> Served
-    requires { ⌜ ownRoom ≤ list.length (now lits) ⌝ }
-    ensures { λ r. ⌜ Serves (ring.serve (now (area .entry)) job) (now (lits .entry)) (now (lits .exit)) r ⌝ }
-{
-    let start = job.start;
-    let length = job.length;
-    let stage = job.stage;
-    if within(start, length, area.len()) {
-        let end = start + length;
-        return read(stage, &area[start..end], &mut lits[..ROOM]);
-    }
-    let refusal = Refusal {
-        number: PART_OUTSIDE_AREA,
-        place: 0,
-    };
-    Served {
-        said: Said::Next(Next::Refused { refusal, count: 0 }),
-        goes: Goes::Over,
     }
 }
 
@@ -356,7 +240,8 @@ pub fn turn(tray: Tray, area: &[u8], lits: &mut [i32]) -> TurnDone
     }
     let front = tray.head % PLACES;
     let job = tray.jobs[front];
-    let served = serve(job, area, lits);
+    let stage = job.stage;
+    let served = service::serve(stage, job.start, job.length, area, &mut lits[..ROOM]);
     pass(tray, served)
 }
 

@@ -1,8 +1,8 @@
--- `tray::read` meets its contract, by the job's stage. Assumes nothing.
-use Rattle.tray.proofs.Ring.{fresh-served, reading-served}
+-- `service::read` meets its contract, by the job's stage. Assumes nothing.
+use Rattle.service.proofs.Serving.{fresh-served, reading-served}
 use borrow.Author.Needs.{needs}
-use Rattle.tray.proofs.read.Statement.{statement}
-use Rattle.tray.proofs.read.Tie as tie
+use Rattle.service.proofs.read.Statement.{statement}
+use Rattle.service.proofs.read.Tie as tie
 
 enum-known-stage : tie.Need-enum-known-stage
 enum-known-stage c = search needs

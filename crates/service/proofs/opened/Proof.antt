@@ -1,7 +1,7 @@
--- `tray::opened` meets its contract, by how the text opens. Assumes nothing.
+-- `service::opened` meets its contract, by how the text opens. Assumes nothing.
 use borrow.Author.Needs.{needs}
-use Rattle.tray.proofs.opened.Statement.{statement}
-use Rattle.tray.proofs.opened.Tie as tie
+use Rattle.service.proofs.opened.Statement.{statement}
+use Rattle.service.proofs.opened.Tie as tie
 
 enum-told : tie.Need-enum-told
 enum-told c = search needs

@@ -1,7 +1,7 @@
--- `tray::stepped` meets its contract, by the answer. Assumes nothing.
+-- `service::stepped` meets its contract, by the answer. Assumes nothing.
 use borrow.Author.Needs.{needs}
-use Rattle.tray.proofs.stepped.Statement.{statement}
-use Rattle.tray.proofs.stepped.Tie as tie
+use Rattle.service.proofs.stepped.Statement.{statement}
+use Rattle.service.proofs.stepped.Tie as tie
 
 enum-told : tie.Need-enum-told
 enum-told c = search needs

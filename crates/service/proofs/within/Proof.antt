@@ -1,11 +1,11 @@
--- `tray::within` meets its contract: the sum of start and length is tested without being made. Assumes nothing.
+-- `service::within` meets its contract: the sum of start and length is tested without being made. Assumes nothing.
 use Prim.Native.Nat.{_+_}
 use mathlib.Core.Path.{sym}
 use native.Mathlib.Omega.{arith}
 use borrow.Author.Tests.{lt-leb}
-use Rattle.tray.proofs.Ring.{within-test}
-use Rattle.tray.proofs.within.Statement.{statement}
-use Rattle.tray.proofs.within.Tie as tie
+use Rattle.service.proofs.Serving.{within-test}
+use Rattle.service.proofs.within.Statement.{statement}
+use Rattle.service.proofs.within.Tie as tie
 
 returns : tie.Need-returns
 returns c = within-test _ _ _ (c .if1 .taken)

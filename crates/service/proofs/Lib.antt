@@ -1,0 +1,2 @@
+-- Laws about serving, which the proofs here cite.
+pub mod Serving

@@ -1,0 +1,2 @@
+-- What serving a job comes to.
+pub mod Serving
