@@ -12,7 +12,7 @@ line, since cryptominisat5 takes no other; what the solver prints is read by the
 - where the verdict is yes, every clause has a listed literal.
 
 The lenient mode reads the log as it is. Where the strict mode refuses a line, the line is recorded, taken out, and the log read again. At the
-end the refused lines are told, each with the command that prints it. The exit status is 1 if any check fails.
+end the refused lines are told, each with the command that prints it. The exit status is 1 if any check fails, and 2 if no solver is installed.
 """
 
 import pathlib
@@ -27,12 +27,13 @@ COMMANDS = [["cadical"], ["cadical", "-v"], ["picosat"], ["picosat", "-v"], ["cr
 STATUS = {10: "yes", 20: "no", 0: "unknown"}
 PLAIN, LOG = 0, 3
 STRICT, LENIENT = 0, 1
+ROOM = 4096
 
 
 def answers(*cases):
     """What `answers` says of each (format, mode, text), line by line."""
-    given = b"".join(struct.pack("<BBII", format, mode, 4096, len(text)) + text for format, mode, text in cases)
-    said = subprocess.run([ROOT / "run", "answers"], input=given, capture_output=True, check=True).stdout.decode()
+    given = b"".join(struct.pack("<BBII", format, mode, ROOM, len(text)) + text for format, mode, text in cases)
+    said = subprocess.run([ROOT / "run", "answers"], input=given, stdout=subprocess.PIPE, check=True).stdout.decode()
     return [case.splitlines()[1:] for case in said.split("case ")[1:]]
 
 
@@ -103,6 +104,9 @@ def problems(run, clauses, lenient, strict):
 
 def main():
     commands = [command for command in COMMANDS if shutil.which(command[0])]
+    if not commands:
+        print("no solver found:", ", ".join(dict.fromkeys(command[0] for command in COMMANDS)))
+        sys.exit(2)
     tried = list(formulas(sys.argv[1:]))
     read = []
     for (name, _), formula in zip(tried, answers(*((PLAIN, STRICT, given) for _, given in tried))):
@@ -133,7 +137,7 @@ def main():
     print(f"{len(refused)} lines that the strict mode refuses:")
     for (command, why, line), names in sorted(refused.items()):
         print(f"  {command}: refusal {why}, {line!r}, on {len(set(names))} formulas")
-    sys.exit(1 if wrong or not commands else 0)
+    sys.exit(1 if wrong else 0)
 
 
 if __name__ == "__main__":
