@@ -124,7 +124,7 @@ pub marked-hold : Hold marked
 unfolding linesOf
 marked-hold = refl
 
--- The other texts of document 01.
+-- The other texts of document 01. `negsuc n` is -(n + 1), so that `negsuc 2` is -3.
 abbrev pub unmarked : List Case
 unmarked =
     plain "1 0\r" (NoHeader ∷ Refused 5 3 1 ∷ [])
