@@ -40,6 +40,9 @@ extern "C" {
  *    8  literals expected after a weight or group     18  log line of no permitted kind
  *    9  clause, comment, line end or end expected     19  log ends with an open assignment
  *   10  variable count above 2,147,483,647            26  no such format or mode; nothing was read
+ *
+ * In the strict mode 9 is also what a wrong clause count comes to, other than 0, which is none: the place is the text's end if there are fewer clauses, and the first clause
+ * beyond the count if there are more.
  */
 uint32_t latchtwig_refusal(uint32_t format, uint32_t mode, const uint8_t *text, size_t length);
 
