@@ -165,7 +165,7 @@ fn weighted_at(
 ) -> Answered
     ensures { λ r. ⌜ Answers (weightedAt (now (text .entry)) limits (length (now (lits .entry))) permitted at) (now (lits .entry)) (now (lits .exit)) r ⌝ }
 {
-    match number::uint(text, at, LARGEST) {
+    match numeral::uint(text, at, LARGEST) {
         Uint::Missing => no_clause(text, at, permitted),
         Uint::TooBig => refused(text, WEIGHT_TOO_BIG, at, 0),
         Uint::Value(weight, next) => clause_owed(text, next, limits, weight, lits),
@@ -175,7 +175,7 @@ fn weighted_at(
 fn grouped_at(text: &[u8], at: usize, limits: Limits, permitted: bool, lits: &mut [i32]) -> Answered
     ensures { λ r. ⌜ Answers (groupedAt (now (text .entry)) limits (length (now (lits .entry))) permitted at) (now (lits .entry)) (now (lits .exit)) r ⌝ }
 {
-    match number::braced_uint(text, at, limits.groups) {
+    match numeral::braced_uint(text, at, limits.groups) {
         Uint::Missing => no_clause(text, at, permitted),
         Uint::TooBig => refused(text, GROUP_TOO_BIG, at, 0),
         Uint::Value(group, next) => clause_owed(text, next, limits, group, lits),

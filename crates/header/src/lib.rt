@@ -57,7 +57,7 @@ fn header_end(text: &[u8], at: usize, variables: u64, clauses: u64, third: u64) 
 fn third_there(text: &[u8], at: usize, variables: u64, clauses: u64) -> Opening
     ensures { λ r. ⌜ r ≡ thirdThere (now (text .entry)) variables clauses at ⌝ }
 {
-    match number::uint(text, at, LARGEST) {
+    match numeral::uint(text, at, LARGEST) {
         Uint::Missing => refused(text, THIRD_COUNT_EXPECTED, at),
         Uint::TooBig => refused(text, THIRD_COUNT_TOO_BIG, at),
         Uint::Value(third, next) => header_end(text, next, variables, clauses, third),
@@ -77,7 +77,7 @@ fn third_count(text: &[u8], at: usize, format: Format, variables: u64, clauses: 
 fn clause_count(text: &[u8], at: usize, format: Format, variables: u64) -> Opening
     ensures { λ r. ⌜ r ≡ clauseCount (now (text .entry)) format variables at ⌝ }
 {
-    match number::uint(text, at, LARGEST) {
+    match numeral::uint(text, at, LARGEST) {
         Uint::Missing => refused(text, CLAUSE_COUNT_EXPECTED, at),
         Uint::TooBig => refused(text, CLAUSE_COUNT_TOO_BIG, at),
         Uint::Value(clauses, next) => third_count(text, next, format, variables, clauses),
@@ -87,7 +87,7 @@ fn clause_count(text: &[u8], at: usize, format: Format, variables: u64) -> Openi
 fn var_count(text: &[u8], at: usize, format: Format) -> Opening
     ensures { λ r. ⌜ r ≡ variableCount (now (text .entry)) format at ⌝ }
 {
-    match number::uint(text, at, CEILING as u64) {
+    match numeral::uint(text, at, CEILING as u64) {
         Uint::Missing => refused(text, VARIABLE_COUNT_EXPECTED, at),
         Uint::TooBig => refused(text, VARIABLE_COUNT_TOO_BIG, at),
         Uint::Value(variables, next) => clause_count(text, next, format, variables),

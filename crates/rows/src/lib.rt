@@ -27,7 +27,7 @@ pub fn ints(text: &[u8], at: usize, limit: u32, held: usize, lits: &mut [i32]) -
         count = lits.len();
     }
     loop {
-        match number::int(text, place, limit) {
+        match numeral::int(text, place, limit) {
             Int::Missing => {
                 return Row::Ends { place, count };
             }

@@ -83,9 +83,9 @@ fn answers(text: &[u8], at: usize, limit: u64) {
     place(token::fixed(text, at, b"SATISFIABLE"));
     place(token::word(text, at, b"p"));
     place(token::word(text, at, b"cnf"));
-    uint(number::uint(text, at, limit));
-    uint(number::braced_uint(text, at, limit));
-    int(number::int(text, at, (limit % 4294967296) as u32));
+    uint(numeral::uint(text, at, limit));
+    uint(numeral::braced_uint(text, at, limit));
+    int(numeral::int(text, at, (limit % 4294967296) as u32));
     io::write_all(STDOUT_FILENO, b"\n");
 }
 

@@ -6,8 +6,8 @@ use Rattle.dimacs.specs.Names.{largest}
 use Rattle.dimacs.proofs.Tests.{tested}
 use borrow.Author.Tests.{ltb-true, ltb-false, lt-ltb, le-ltb}
 use native.Mathlib.Omega.{arith}
-use Rattle.number.proofs.overflows.Statement.{statement}
-use Rattle.number.proofs.overflows.Tie as tie
+use Rattle.numeral.proofs.overflows.Statement.{statement}
+use Rattle.numeral.proofs.overflows.Tie as tie
 
 returns : tie.Need-returns
 returns c = let a = c .before .args in

@@ -3,8 +3,8 @@ use mathlib.Core.Path.{sym}
 use Rattle.dimacs.proofs.Lines.{no-byte}
 use Rattle.dimacs.proofs.Numbers.{minus-is, minus-no}
 use borrow.Author.Needs.{needs}
-use Rattle.number.proofs.past_minus.Statement.{statement}
-use Rattle.number.proofs.past_minus.Tie as tie
+use Rattle.numeral.proofs.past_minus.Statement.{statement}
+use Rattle.numeral.proofs.past_minus.Tie as tie
 
 shared-slice-read-if2 : tie.Need-shared-slice-read-if2
 shared-slice-read-if2 c = search needs

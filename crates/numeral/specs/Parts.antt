@@ -8,8 +8,8 @@ use lib.ListN.{drop}
 use Rattle.dimacs.specs.Bytes.{isDigit}
 use Rattle.dimacs.specs.Names.{ceiling, largest}
 use Rattle.dimacs.specs.Tokens.{past, decimal}
-use Rattle.number.specs.declared.Digits.{Digits}
-use Rattle.number.specs.declared.Digits.the-variants.{Value, Above}
+use Rattle.numeral.specs.declared.Digits.{Digits}
+use Rattle.numeral.specs.declared.Digits.the-variants.{Value, Above}
 
 -- The digits at a place: the number that they write, if it is a 64-bit number, and where they end.
 unfoldable pub digitsOf : List ℕ → ℕ → Digits

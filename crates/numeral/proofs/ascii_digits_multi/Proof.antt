@@ -4,12 +4,12 @@ use mathlib.Core.Path.{sym, _∙_}
 use lib.ListN.{length, getD}
 use Rattle.dimacs.specs.Names.{largest}
 use Rattle.dimacs.proofs.Numbers.{Read, read-none, read-more, read-above, read-low, read-high, read-end}
-use Rattle.number.proofs.Runs.{digits-value, digits-above}
+use Rattle.numeral.proofs.Runs.{digits-value, digits-above}
 use borrow.Author.Needs.{needs}
 use borrow.Author.Tests.{ltb-true, ltb-false}
 use native.Mathlib.Omega.{arith}
-use Rattle.number.proofs.ascii_digits_multi.Statement.{statement}
-use Rattle.number.proofs.ascii_digits_multi.Tie as tie
+use Rattle.numeral.proofs.ascii_digits_multi.Statement.{statement}
+use Rattle.numeral.proofs.ascii_digits_multi.Tie as tie
 
 abbrev Inv-loop : tie.InvT-loop
 Inv-loop text at v₀ i₀ v i = Read text at i v × (v ≤ largest)

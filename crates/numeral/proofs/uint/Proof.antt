@@ -1,12 +1,12 @@
--- `number::uint` meets its contract: each answer from what the digits tell. Assumes nothing.
+-- `numeral::uint` meets its contract: each answer from what the digits tell. Assumes nothing.
 use mathlib.Core.Path.{sym, _∙_}
 use Rattle.dimacs.specs.Tokens.{uintAt}
 use Rattle.dimacs.proofs.Numbers.{unsigned-none, unsigned-joined, unsigned-found, by-none, by-value, by-too-big}
-use Rattle.number.proofs.Runs.{told, above-stands}
+use Rattle.numeral.proofs.Runs.{told, above-stands}
 use borrow.Author.Needs.{needs}
 use native.Mathlib.Omega.{arith}
-use Rattle.number.proofs.uint.Statement.{statement}
-use Rattle.number.proofs.uint.Tie as tie
+use Rattle.numeral.proofs.uint.Statement.{statement}
+use Rattle.numeral.proofs.uint.Tie as tie
 
 ascii-digits-multi-requires : tie.Need-ascii-digits-multi-requires
 ascii-digits-multi-requires c κs = search needs

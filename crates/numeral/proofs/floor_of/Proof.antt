@@ -3,11 +3,11 @@ use Prim.Native.Nat.{ℕ, min}
 use mathlib.Core.Path.{_≡_, ap, sym, _∙_}
 use lib.IntN.{pos, negℤ}
 use Rattle.dimacs.specs.Names.{ceiling}
-use Rattle.number.proofs.Negated.{minus-fits, minus-back}
+use Rattle.numeral.proofs.Negated.{minus-fits, minus-back}
 use borrow.Author.Needs.{needs}
 use native.Mathlib.Omega.{arith}
-use Rattle.number.proofs.floor_of.Statement.{statement}
-use Rattle.number.proofs.floor_of.Tie as tie
+use Rattle.numeral.proofs.floor_of.Statement.{statement}
+use Rattle.numeral.proofs.floor_of.Tie as tie
 
 cast-result : tie.Need-cast-result
 cast-result c = search needs

@@ -1,13 +1,13 @@
--- `number::braced_uint` meets its contract: each answer from the braces and what the digits tell. Assumes nothing.
+-- `numeral::braced_uint` meets its contract: each answer from the braces and what the digits tell. Assumes nothing.
 use mathlib.Core.Path.{sym, _∙_}
 use Rattle.dimacs.specs.Tokens.{bracedUintAt}
 use Rattle.dimacs.proofs.Lines.{no-byte}
 use Rattle.dimacs.proofs.Numbers.{braced-no, braced-none, braced-open, braced-found, by-none, by-value, by-too-big}
-use Rattle.number.proofs.Runs.{told, above-stands}
+use Rattle.numeral.proofs.Runs.{told, above-stands}
 use borrow.Author.Needs.{needs}
 use native.Mathlib.Omega.{arith}
-use Rattle.number.proofs.braced_uint.Statement.{statement}
-use Rattle.number.proofs.braced_uint.Tie as tie
+use Rattle.numeral.proofs.braced_uint.Statement.{statement}
+use Rattle.numeral.proofs.braced_uint.Tie as tie
 
 returns : tie.Need-returns
 unfolding bracedUintAt

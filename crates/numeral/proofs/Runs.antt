@@ -12,9 +12,9 @@ use Rattle.dimacs.specs.Names.{largest}
 use Rattle.dimacs.specs.Tokens.{past, decimal}
 use Rattle.dimacs.proofs.Tests.{chosen}
 use Rattle.dimacs.proofs.Numbers.{All, Above, digits-stand}
-use Rattle.number.specs.Parts.{digitsOf}
-use Rattle.number.specs.declared.Digits.{Digits}
-use Rattle.number.specs.declared.Digits.the-variants as digits
+use Rattle.numeral.specs.Parts.{digitsOf}
+use Rattle.numeral.specs.declared.Digits.{Digits}
+use Rattle.numeral.specs.declared.Digits.the-variants as digits
 
 -- What a loop answers.
 pub digits-value : {s : List ℕ} {at e v : ℕ} → All s at e v → v ≤ largest → digits.Value v e ≡ digitsOf s at

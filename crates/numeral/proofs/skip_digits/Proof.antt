@@ -7,8 +7,8 @@ use Rattle.dimacs.specs.Tokens.{past}
 use Rattle.dimacs.proofs.Bytes.{is-digit, below-digit, above-digit}
 use Rattle.dimacs.proofs.Past.{past-more, past-stop, past-end}
 use native.Mathlib.Omega.{arith}
-use Rattle.number.proofs.skip_digits.Statement.{statement}
-use Rattle.number.proofs.skip_digits.Tie as tie
+use Rattle.numeral.proofs.skip_digits.Statement.{statement}
+use Rattle.numeral.proofs.skip_digits.Tie as tie
 
 abbrev Inv-loop : tie.InvT-loop
 Inv-loop text at i₀ i = past isDigit text i ≡ past isDigit text at

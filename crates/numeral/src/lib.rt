@@ -6,7 +6,7 @@ ghost use lib.Dec.{ltb};
 ghost use Rattle.dimacs.specs.Names.{largest};
 ghost use Rattle.dimacs.specs.Bytes.{isDigit};
 ghost use Rattle.dimacs.specs.Tokens.{past, uintAt, bracedUintAt, minus, intAt};
-ghost use Rattle.number.specs.Parts.{digitsOf, floorOf};
+ghost use Rattle.numeral.specs.Parts.{digitsOf, floorOf};
 use dimacs::CEILING;
 use dimacs::Int;
 use dimacs::Uint;
