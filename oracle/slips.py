@@ -20,7 +20,7 @@ import calls
 from framed import frames
 
 ROOT = pathlib.Path(__file__).resolve().parent.parent
-CRATES = ["token", "numeral", "header", "rows", "clause", "formula", "sat_solver_log", "writer"]
+CRATES = ["token", "numeral", "header", "rows", "clause", "formula", "log_line", "sat_solver_log", "writer"]
 
 
 def edited(crate, edit):

@@ -15,7 +15,7 @@ use dimacs::Refusal;
 use dimacs::Verdict;
 use formula::Cursor;
 use libc::STDIN_FILENO;
-use sat_solver_log::Log;
+use log_line::Log;
 
 // The word that a refusal stopped at, if there is one.
 fn stopped_word(w: &[u8]) {

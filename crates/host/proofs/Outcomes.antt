@@ -10,9 +10,10 @@ use borrow.Author.Tests.{ltb-true, ltb-false, ne-eqb}
 use Rattle.dimacs.specs.Names.{ownRoom, modeOf}
 use Rattle.dimacs.specs.Logs.{LogAnswer, accepted, refusedLog}
 use Rattle.dimacs.proofs.Tests.{tested}
-use Rattle.sat_solver_log.specs.Answers.{logOf, logBy, Parses}
-use Rattle.sat_solver_log.specs.declared.Log.{Log}
-use Rattle.sat_solver_log.specs.declared.Log.the-variants.{Accepted, Refused}
+use Rattle.log_line.specs.Answers.{logOf}
+use Rattle.log_line.specs.declared.Log.{Log}
+use Rattle.log_line.specs.declared.Log.the-variants.{Accepted, Refused}
+use Rattle.sat_solver_log.specs.Answers.{logBy, Parses}
 use Rattle.formula.specs.Whole.{readToEnd, refusedBy, outcomeOf}
 use Rattle.formula.specs.declared.Outcome.{Outcome}
 use Rattle.host.specs.Outcomes.{outcomeByLog, outcomeOfLog, outcome}

@@ -7,7 +7,7 @@ ghost use Rattle.host.specs.Outcomes.{outcomeOfLog, outcome};
 use dimacs::LOG_FORMAT;
 use dimacs::ROOM;
 use formula::Outcome;
-use sat_solver_log::Log;
+use log_line::Log;
 
 // The largest byte. It names no format and no mode.
 const LARGEST_BYTE: u32 = 255;

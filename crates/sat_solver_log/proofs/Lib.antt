@@ -1,4 +1,3 @@
--- Laws about the lines and the loop over them, which several proofs cite.
-pub mod Rows
+-- Laws about the kinds of line and the loop over them, which several proofs cite.
 pub mod Lines
 pub mod Runs

@@ -10,7 +10,7 @@ use lib.Seq.{length-take-le}
 use lib.IntN.{ℤ}
 use Rattle.dimacs.specs.Loop.{Step, again, answer}
 use Rattle.dimacs.specs.Bytes.{bytes}
-use Rattle.dimacs.specs.Names.{Reason, refusal, ceiling}
+use Rattle.dimacs.specs.Names.{ceiling}
 use Rattle.dimacs.specs.Tokens.{unmoved, atEnd, blanks, fixed, strictComment}
 use Rattle.dimacs.specs.Rows as row
 use Rattle.dimacs.specs.Logs as def
@@ -24,14 +24,15 @@ use Rattle.dimacs.specs.declared.Verdict.{Verdict}
 use Rattle.dimacs.specs.declared.Verdict.the-variants.{Yes, No, Unknown}
 use Rattle.dimacs.proofs.Tests.{chosen}
 use Rattle.dimacs.proofs.Rows.{Grown, row-grows}
-use Rattle.sat_solver_log.specs.Answers.{logOf, leftBy}
-use Rattle.sat_solver_log.specs.Lines.{stateOf, lineOf, lineLeaves, Goes, valueStart, solutionStart}
-use Rattle.sat_solver_log.specs.declared.Log.{Log}
-use Rattle.sat_solver_log.specs.declared.Reading.{Reading}
-use Rattle.sat_solver_log.specs.declared.Line.{Line}
-use Rattle.sat_solver_log.specs.declared.Line.the-variants.{Again, Answer}
 use Rattle.dimacs.proofs.Buffer.{unchanged, in-place}
-use Rattle.sat_solver_log.proofs.Rows.{line-read-leaves}
+use Rattle.log_line.specs.Answers.{logOf, leftBy}
+use Rattle.log_line.specs.Lines.{stateOf, lineOf, lineLeaves, Counted, Goes}
+use Rattle.log_line.specs.declared.Log.{Log}
+use Rattle.log_line.specs.declared.Reading.{Reading}
+use Rattle.log_line.specs.declared.Line.{Line}
+use Rattle.log_line.specs.declared.Line.the-variants.{Again, Answer}
+use Rattle.log_line.proofs.Rows.{line-read-leaves}
+use Rattle.sat_solver_log.specs.Starts.{valueStart, solutionStart}
 
 -- Only value lines add literals.
 module _ (s : List ℕ) where
@@ -90,9 +91,8 @@ module _ (s : List ℕ) (mode : Mode) (x : Reading) (old : List ℤ) (fits : x .
   unfolding def.logLine
   comment-is h = rw (sym c-is, ne-eqb c (x .place) h)
 
-  pub comment-line : (c ≡ x .place → ⊥) → {y : Reading} → y ≡ record { place = c; solution = x .solution; assignment = x .assignment; count = x .count }
-      → Goes (lineAt s mode old x) old old (Again y)
-  comment-line h is = stays fits (comment-is h) refl (rw (is, many))
+  pub comment-line : (c ≡ x .place → ⊥) → Goes (lineAt s mode old x) old old (Again (record { place = c; solution = x .solution; assignment = x .assignment; count = x .count }))
+  comment-line h = stays fits (comment-is h) refl (rw many)
 
   module _ (c-no : c ≡ x .place) (v : ℕ) (v-is : v ≡ valueStart s (x .assignment) (x .place)) where
     value-is : (v ≡ x .place → ⊥) → lineAt s mode old x ≡ def.valueLine s (length old) v (stateOf x (take (x .count) old))
@@ -115,7 +115,7 @@ module _ (s : List ℕ) (mode : Mode) (x : Reading) (old : List ℤ) (fits : x .
           let i = starts-so (def.isSaid (x .solution)) e (fixed s (bytes "s ") (x .place)) (x .place) e-is h in
           rw (sym c-is, eq-eqb c (x .place) c-no, no-values, i .0, i .1)
 
-      pub solution-line : (e ≡ x .place → ⊥) → {r : Line} → ((so : List ℤ) → length so ≡ x .count → r ≡ lineOf (def.solutionLine s e (stateOf x so)))
+      pub solution-line : (e ≡ x .place → ⊥) → {r : Line} → Counted (x .count) (λ so. lineOf (def.solutionLine s e (stateOf x so))) r
           → Goes (lineAt s mode old x) old old r
       solution-line h is = stays fits (solution-is h) (solution-line-leaves s e (stateOf x (take (x .count) old))) (is (take (x .count) old) many)
 
@@ -128,36 +128,16 @@ module _ (s : List ℕ) (mode : Mode) (x : Reading) (old : List ℤ) (fits : x .
         end-is t = rw (sym c-is, eq-eqb c (x .place) c-no, no-values, no-solution, t)
 
         pub last-line : atEnd s (x .place) ≡ true → {a : Log}
-            → ((so : List ℤ) → length so ≡ x .count → a ≡ logOf (def.logEnd s (x .place) (x .solution) so (x .assignment))) → Goes (lineAt s mode old x) old old (Answer a)
+            → Counted (x .count) (λ so. logOf (def.logEnd s (x .place) (x .solution) so (x .assignment))) a → Goes (lineAt s mode old x) old old (Answer a)
         last-line t is = stays fits (end-is t) (log-end-leaves s (x .place) (x .solution) (take (x .count) old) (x .assignment)) (ap Answer (is (take (x .count) old) many))
 
         other-is : atEnd s (x .place) ≡ false → lineAt s mode old x ≡ def.otherLine s mode (stateOf x (take (x .count) old))
         unfolding def.logLine
         other-is t = rw (sym c-is, eq-eqb c (x .place) c-no, no-values, no-solution, t)
 
-        pub other-line : atEnd s (x .place) ≡ false → {r : Line} → ((so : List ℤ) → length so ≡ x .count → r ≡ lineOf (def.otherLine s mode (stateOf x so)))
+        pub other-line : atEnd s (x .place) ≡ false → {r : Line} → Counted (x .count) (λ so. lineOf (def.otherLine s mode (stateOf x so))) r
             → Goes (lineAt s mode old x) old old r
         other-line t is = stays fits (other-is t) (other-line-leaves s mode (stateOf x (take (x .count) old))) (is (take (x .count) old) many)
-
--- By the places that the calls for the three words gave.
-module _ (s : List ℕ) (at : ℕ) (l : def.Log) (a : ℕ) (a-is : a ≡ fixed s (bytes "SATISFIABLE") at) where
-  pub says-yes : (a ≡ at → ⊥) → def.solutionLine s at l ≡ def.lineRead s a (Said Yes) (l .assignment) (l .so)
-  unfolding def.solutionLine
-  says-yes h = rw (sym a-is, ne-eqb a at h)
-
-  module _ (a-no : a ≡ at) (b : ℕ) (b-is : b ≡ fixed s (bytes "UNSATISFIABLE") at) where
-    pub says-no : (b ≡ at → ⊥) → def.solutionLine s at l ≡ def.lineRead s b (Said No) (l .assignment) (l .so)
-    unfolding def.solutionLine
-    says-no h = rw (sym a-is, eq-eqb a at a-no, sym b-is, ne-eqb b at h)
-
-    module _ (b-no : b ≡ at) (c : ℕ) (c-is : c ≡ fixed s (bytes "UNKNOWN") at) where
-      pub says-unknown : (c ≡ at → ⊥) → def.solutionLine s at l ≡ def.lineRead s c (Said Unknown) (l .assignment) (l .so)
-      unfolding def.solutionLine
-      says-unknown h = rw (sym a-is, eq-eqb a at a-no, sym b-is, eq-eqb b at b-no, sym c-is, ne-eqb c at h)
-
-      pub says-nothing : c ≡ at → def.solutionLine s at l ≡ answer (def.refusedLog (refusal s Reason.solutionExpected at) (l .so))
-      unfolding def.solutionLine
-      says-nothing h = rw (sym a-is, eq-eqb a at a-no, sym b-is, eq-eqb b at b-no, sym c-is, eq-eqb c at h)
 
 module _ (s : List ℕ) (mode : Mode) (room : ℕ) (l : def.Log) where
   Grows : Step def.Log def.LogAnswer → Type 0

@@ -13,13 +13,14 @@ use Rattle.dimacs.specs.declared.Assignment.the-variants.{Unbegun}
 use Rattle.dimacs.proofs.Loops.{after}
 use Rattle.dimacs.proofs.Logs.{LineLeads, log-line-leads, log-step}
 use Rattle.dimacs.specs.Clauses.{laid}
-use Rattle.sat_solver_log.specs.Answers.{logOf, leftBy, Parses}
-use Rattle.sat_solver_log.specs.Lines.{stateOf, readingOf, lineOf, lineLeaves, Goes}
-use Rattle.sat_solver_log.specs.declared.Log.{Log}
-use Rattle.sat_solver_log.specs.declared.Log.the-variants.{Accepted, Refused}
-use Rattle.sat_solver_log.specs.declared.Reading.{Reading}
-use Rattle.sat_solver_log.specs.declared.Line.the-variants.{Again, Answer}
 use Rattle.dimacs.proofs.Buffer.{Kept, unchanged, counted, beyond, adds, front}
+use Rattle.log_line.specs.Answers.{logOf, leftBy}
+use Rattle.log_line.specs.Lines.{stateOf, readingOf, lineOf, lineLeaves, Goes}
+use Rattle.log_line.specs.declared.Log.{Log}
+use Rattle.log_line.specs.declared.Log.the-variants.{Accepted, Refused}
+use Rattle.log_line.specs.declared.Reading.{Reading}
+use Rattle.log_line.specs.declared.Line.the-variants.{Again, Answer}
+use Rattle.sat_solver_log.specs.Answers.{Parses}
 use Rattle.sat_solver_log.proofs.Lines.{lineAt, log-line-grows}
 
 -- Two permitted answers are equal, and so are the buffers after them.

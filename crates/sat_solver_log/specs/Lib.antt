@@ -1,3 +1,3 @@
 -- What the answers of the log reader mean.
 pub mod Answers
-pub mod Lines
+pub mod Starts

@@ -8,11 +8,8 @@ use Rattle.sat_solver_log.proofs.log_line.Tie as tie
 interactive-strict-comment-requires : tie.Need-interactive-strict-comment-requires
 interactive-strict-comment-requires c κs = search needs
 
-goes-requires : tie.Need-goes-requires
-goes-requires c κs = search needs
-
 returns : tie.Need-returns
-returns c = comment-line _ _ _ _ (c .before .before .before .before .pre) _ (c .before .before .interactive-strict-comment .ensures) (c .before .if1 .taken) (c .goes .ensures)
+returns c = comment-line _ _ _ _ (c .before .before .before .pre) _ (c .before .interactive-strict-comment .ensures) (c .if1 .taken)
 
 value-start-requires : tie.Need-value-start-requires
 value-start-requires c κs = search needs
@@ -55,7 +52,6 @@ log-line-spec =
     tie.close
     (tie.spec
     interactive-strict-comment-requires
-    goes-requires
     returns
     value-start-requires
     value-line-requires

@@ -1,8 +1,8 @@
--- `sat_solver_log::line_read` meets its contract, by what closes the line. Assumes nothing.
+-- `log_line::line_read` meets its contract, by what closes the line. Assumes nothing.
 use mathlib.Core.Path.{sym, _∙_}
 use borrow.Author.Needs.{needs}
-use Rattle.sat_solver_log.proofs.line_read.Statement.{statement}
-use Rattle.sat_solver_log.proofs.line_read.Tie as tie
+use Rattle.log_line.proofs.line_read.Statement.{statement}
+use Rattle.log_line.proofs.line_read.Tie as tie
 
 interactive-end-of-line-requires : tie.Need-interactive-end-of-line-requires
 interactive-end-of-line-requires c κs = search needs

@@ -1,9 +1,9 @@
--- `sat_solver_log::value_line` meets its contract: what closes the line, by what its row comes to. Assumes nothing.
+-- `log_line::value_line` meets its contract: what closes the line, by what its row comes to. Assumes nothing.
 use Rattle.dimacs.specs.Logs.{valueLine}
-use Rattle.sat_solver_log.proofs.Rows.{row-leads}
+use Rattle.log_line.proofs.Rows.{row-leads}
 use borrow.Author.Needs.{needs}
-use Rattle.sat_solver_log.proofs.value_line.Statement.{statement}
-use Rattle.sat_solver_log.proofs.value_line.Tie as tie
+use Rattle.log_line.proofs.value_line.Statement.{statement}
+use Rattle.log_line.proofs.value_line.Tie as tie
 
 skip-whitespace-requires : tie.Need-skip-whitespace-requires
 skip-whitespace-requires c κs = search needs

@@ -1,9 +1,9 @@
--- The line that a row of values stands in, a law for each way out. Assumes nothing.
+-- The answers for a line are one; and the line that a row of values stands in, a law for each way out. Assumes nothing.
 use Prim.Native.Nat.{ℕ}
 use mathlib.Core.List.{List}
 use mathlib.Core.Path.{_≡_, refl, sym, _∙_, subst}
-use lib.ListN.{length}
-use lib.IntN.{ℤ}
+use lib.ListN.{replicate, length-replicate}
+use lib.IntN.{ℤ, pos}
 use Rattle.dimacs.specs.Loop.{Step, again, answer}
 use Rattle.dimacs.specs.Names.{Reason, refusal}
 use Rattle.dimacs.specs.Tokens.{endOfLine, lineEnds}
@@ -19,10 +19,18 @@ use Rattle.dimacs.specs.Clauses.{laid}
 use Rattle.rows.specs.Answers.{rowOf, Reads}
 use Rattle.rows.specs.declared.Row.{Row}
 use Rattle.rows.specs.declared.Row.the-variants.{Ends, Closes, Stops}
-use Rattle.sat_solver_log.specs.Lines.{lineOf, lineLeaves, Goes}
-use Rattle.sat_solver_log.specs.declared.Log.the-variants.{Refused}
-use Rattle.sat_solver_log.specs.declared.Line.{Line}
-use Rattle.sat_solver_log.specs.declared.Line.the-variants.{Answer}
+use Rattle.log_line.specs.Lines.{lineOf, lineLeaves, Counted, Goes}
+use Rattle.log_line.specs.declared.Log.the-variants.{Refused}
+use Rattle.log_line.specs.declared.Line.{Line}
+use Rattle.log_line.specs.declared.Line.the-variants.{Answer}
+
+-- Two permitted answers are equal, and so are the buffers after them.
+pub one-line : {d : Step def.Log def.LogAnswer} {old n₁ n₂ : List ℤ} {r₁ r₂ : Line} → Goes d old n₁ r₁ → Goes d old n₂ r₂ → (r₁ ≡ r₂) × (n₁ ≡ n₂)
+one-line p q = (p .line ∙ sym (q .line), p .buffer ∙ sym (q .buffer))
+
+-- There are so many literals, whatever the count is.
+pub one-count : {A : Type 0} {n : ℕ} {f : List ℤ → A} {r₁ r₂ : A} → Counted n f r₁ → Counted n f r₂ → r₁ ≡ r₂
+one-count {n = n} p q = let so = replicate n (pos 0) in let e = length-replicate n (pos 0) in p so e ∙ sym (q so e)
 
 pub line-read-leaves : (s : List ℕ) (at : ℕ) (solution : Solution) (a : Assignment) (so : List ℤ) → lineLeaves (def.lineRead s at solution a so) ≡ so
 line-read-leaves s at solution a so = go (endOfLine s at)
@@ -35,7 +43,7 @@ line-read-leaves s at solution a so = go (endOfLine s at)
 module _ (s : List ℕ) (solution : Solution) (d : row.Row) (old new : List ℤ) where
   -- What is read of a line at a place, after so many literals.
   abbrev ReadAt : ℕ → Assignment → ℕ → Line → Type 0
-  ReadAt n a count r = (so : List ℤ) → length so ≡ count → r ≡ lineOf (def.lineRead s n solution a so)
+  ReadAt n a count = Counted count (λ so. lineOf (def.lineRead s n solution a so))
 
   abbrev Leads : Row → Type 0
   Leads (Ends n count) = (r : Line) → ReadAt n Begun count r → Goes (def.valuesRead s solution d) old new r

@@ -1,23 +1,18 @@
 -- What the functions that read a line answer, by the definition. The literals so far are those at the front of the buffer.
 use Prim.Native.Nat.{ℕ}
-use mathlib.Core.Bool.{cond}
 use mathlib.Core.List.{List}
 use mathlib.Core.Path.{_≡_}
 use lib.ListN.{length}
 use lib.IntN.{ℤ}
 use Rattle.dimacs.specs.Loop.{Step, again, answer}
-use Rattle.dimacs.specs.Bytes.{bytes}
 use Rattle.dimacs.specs.Names.{numbered}
-use Rattle.dimacs.specs.Tokens.{fixed}
 use Rattle.dimacs.specs.Logs as def
-use Rattle.dimacs.specs.declared.Solution.{Solution}
-use Rattle.dimacs.specs.declared.Assignment.{Assignment}
 use Rattle.dimacs.specs.Clauses.{laid}
-use Rattle.sat_solver_log.specs.declared.Log.the-variants.{Refused}
-use Rattle.sat_solver_log.specs.declared.Reading.{Reading}
-use Rattle.sat_solver_log.specs.declared.Line.{Line}
-use Rattle.sat_solver_log.specs.declared.Line.the-variants.{Again, Answer}
-use Rattle.sat_solver_log.specs.Answers.{logOf, leftBy}
+use Rattle.log_line.specs.declared.Log.the-variants.{Refused}
+use Rattle.log_line.specs.declared.Reading.{Reading}
+use Rattle.log_line.specs.declared.Line.{Line}
+use Rattle.log_line.specs.declared.Line.the-variants.{Again, Answer}
+use Rattle.log_line.specs.Answers.{logOf, leftBy}
 
 -- A state of the code with the literals so far is one of the definition.
 abbrev pub stateOf : Reading → List ℤ → def.Log
@@ -36,6 +31,10 @@ lineOf (answer a) = Answer (logOf a)
 abbrev pub refusedOf : List ℕ → ℕ → ℕ → ℕ → Line
 refusedOf s number at count = Answer (Refused (numbered s number at) count)
 
+-- An answer that tells the literals so far by their count: it is the same for any that are so many.
+abbrev pub Counted : {A : Type 0} → ℕ → (List ℤ → A) → A → Type 0
+Counted n f r = (so : List ℤ) → length so ≡ n → r ≡ f so
+
 -- The literals that a line leaves in the buffer.
 abbrev pub lineLeaves : Step def.Log def.LogAnswer → List ℤ
 lineLeaves (again l) = l .so
@@ -45,11 +44,3 @@ lineLeaves (answer a) = leftBy a
 pub record Goes (d : Step def.Log def.LogAnswer) (old new : List ℤ) (r : Line) : Type 0 where
   pub line : r ≡ lineOf d
   pub buffer : new ≡ laid (lineLeaves d) old
-
--- Past `v ` while no 0 has closed the assignment, else the place itself.
-abbrev pub valueStart : List ℕ → Assignment → ℕ → ℕ
-valueStart s a at = cond (def.isClosed a) at (fixed s (bytes "v ") at)
-
--- Past `s ` if no solution line came, else the place itself.
-abbrev pub solutionStart : List ℕ → Solution → ℕ → ℕ
-solutionStart s solution at = cond (def.isSaid solution) at (fixed s (bytes "s ") at)

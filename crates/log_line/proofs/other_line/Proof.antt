@@ -1,7 +1,7 @@
--- `sat_solver_log::other_line` meets its contract, by the mode. Assumes nothing.
+-- `log_line::other_line` meets its contract, by the mode. Assumes nothing.
 use borrow.Author.Needs.{needs}
-use Rattle.sat_solver_log.proofs.other_line.Statement.{statement}
-use Rattle.sat_solver_log.proofs.other_line.Tie as tie
+use Rattle.log_line.proofs.other_line.Statement.{statement}
+use Rattle.log_line.proofs.other_line.Tie as tie
 
 enum-told : tie.Need-enum-told
 enum-told c = search needs
@@ -15,14 +15,11 @@ enum-told-2 c = search needs
 interactive-skip-line-requires : tie.Need-interactive-skip-line-requires
 interactive-skip-line-requires c κs = search needs
 
-goes-requires : tie.Need-goes-requires
-goes-requires c κs = search needs
-
 returns : tie.Need-returns
 returns c = let m = c .before .enum-told .given .1 in let r = c .refused .ensures in λ so h. rw (m, h) r
 
 returns-2 : tie.Need-returns-2
-returns-2 c = let m = c .before .before .enum-told2 .given .1 in let g = c .goes .ensures in let n = c .before .interactive-skip-line .ensures in λ so h. rw (m, g, n, h)
+returns-2 c = let m = c .before .enum-told2 .given .1 in let n = c .interactive-skip-line .ensures in λ so h. rw (m, n, h)
 
 pub other-line-spec : {M : Type 1} → statement M
 other-line-spec =
@@ -32,6 +29,5 @@ other-line-spec =
     refused-requires
     enum-told-2
     interactive-skip-line-requires
-    goes-requires
     returns
     returns-2)

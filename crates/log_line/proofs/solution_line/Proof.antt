@@ -1,10 +1,10 @@
--- `sat_solver_log::solution_line` meets its contract, by the word that stands. Assumes nothing.
+-- `log_line::solution_line` meets its contract, by the word that stands. Assumes nothing.
 use mathlib.Core.Path.{ap, sym, _∙_}
-use Rattle.sat_solver_log.specs.Lines.{stateOf, lineOf}
-use Rattle.sat_solver_log.proofs.Lines.{says-yes, says-no, says-unknown, says-nothing}
+use Rattle.log_line.specs.Lines.{stateOf, lineOf}
+use Rattle.log_line.proofs.Words.{says-yes, says-no, says-unknown, says-nothing}
 use borrow.Author.Needs.{needs}
-use Rattle.sat_solver_log.proofs.solution_line.Statement.{statement}
-use Rattle.sat_solver_log.proofs.solution_line.Tie as tie
+use Rattle.log_line.proofs.solution_line.Statement.{statement}
+use Rattle.log_line.proofs.solution_line.Tie as tie
 
 slice-aggregate-fixed : tie.Need-slice-aggregate-fixed
 slice-aggregate-fixed c = search needs

@@ -1,7 +1,7 @@
--- `sat_solver_log::log_end` meets its contract, by the state of the assignment. Assumes nothing.
+-- `log_line::log_end` meets its contract, by the state of the assignment. Assumes nothing.
 use borrow.Author.Needs.{needs}
-use Rattle.sat_solver_log.proofs.log_end.Statement.{statement}
-use Rattle.sat_solver_log.proofs.log_end.Tie as tie
+use Rattle.log_line.proofs.log_end.Statement.{statement}
+use Rattle.log_line.proofs.log_end.Tie as tie
 
 verdict-of-requires : tie.Need-verdict-of-requires
 verdict-of-requires c κs = search needs

@@ -1,7 +1,7 @@
--- `sat_solver_log::verdict_of` meets its contract, by the solution. Assumes nothing.
+-- `log_line::verdict_of` meets its contract, by the solution. Assumes nothing.
 use borrow.Author.Needs.{needs}
-use Rattle.sat_solver_log.proofs.verdict_of.Statement.{statement}
-use Rattle.sat_solver_log.proofs.verdict_of.Tie as tie
+use Rattle.log_line.proofs.verdict_of.Statement.{statement}
+use Rattle.log_line.proofs.verdict_of.Tie as tie
 
 enum-told : tie.Need-enum-told
 enum-told c = search needs

@@ -1,0 +1,3 @@
+-- Laws about the lines of a log.
+pub mod Rows
+mod Words

@@ -1,0 +1,161 @@
+// The lines of a solver log: what each kind of line leads to, with its literals read into a lent buffer.
+ghost use mathlib.Core.Path.{_≡_};
+ghost use lib.ListN.{length, take};
+ghost use Rattle.dimacs.specs.Logs.{verdictOf, lineRead, solutionLine, logEnd, otherLine, valueLine};
+ghost use Rattle.log_line.specs.Answers.{logOf};
+ghost use Rattle.log_line.specs.Lines.{stateOf, lineOf, refusedOf, Counted, Goes};
+use dimacs::ASSIGNMENT_OPEN;
+use dimacs::Assignment;
+use dimacs::CEILING;
+use dimacs::EndOfLine;
+use dimacs::LINE_END_EXPECTED;
+use dimacs::LOG_LINE_EXPECTED;
+use dimacs::Mode;
+use dimacs::Refusal;
+use dimacs::SOLUTION_EXPECTED;
+use dimacs::Solution;
+use dimacs::Verdict;
+use dimacs::refuse;
+use rows::Row;
+
+// What a log comes to.
+pub enum Log {
+    // The solver's verdict, and how many literals of the assignment the buffer holds.
+    Accepted { verdict: Verdict, count: usize },
+    // A refusal, and how many literals before it the buffer holds.
+    Refused { refusal: Refusal, count: usize },
+}
+
+// Where a log is read: the place, what was said, how far the assignment is, and how many literals the buffer holds.
+pub struct Reading {
+    pub place: usize,
+    pub solution: Solution,
+    pub assignment: Assignment,
+    pub count: usize,
+}
+
+// What a line leads to: where the next is read, or the answer.
+pub enum Line {
+    Again(Reading),
+    Answer(Log),
+}
+
+// A refusal as what a line leads to.
+fn refused(text: &[u8], number: u8, place: usize, count: usize) -> Line
+    ensures { λ r. ⌜ r ≡ refusedOf (now (text .entry)) number place count ⌝ }
+{
+    Line::Answer(Log::Refused {
+        refusal: refuse(text, number, place),
+        count,
+    })
+}
+
+// A value line or solution line is read: what closes it.
+fn line_read(
+    text: &[u8],
+    at: usize,
+    solution: Solution,
+    assignment: Assignment,
+    count: usize,
+) -> Line
+    ensures { λ r. ⌜ Counted count (λ so. lineOf (lineRead (now (text .entry)) at solution assignment so)) r ⌝ }
+{
+    match token::interactive_end_of_line(text, at) {
+        EndOfLine::Missing => refused(text, LINE_END_EXPECTED, at, count),
+        EndOfLine::Past(place) => Line::Again(Reading {
+            place,
+            solution,
+            assignment,
+            count,
+        }),
+    }
+}
+
+// A value line after its `v `.
+pub fn value_line(text: &[u8], at: usize, reading: Reading, lits: &mut [i32]) -> Line
+    ensures { λ r. ⌜ Goes (valueLine (now (text .entry)) (length (now (lits .entry))) at (stateOf reading (take (reading .count) (now (lits .entry))))) (now (lits .entry)) (now (lits .exit)) r ⌝ }
+{
+    let solution = reading.solution;
+    let from = token::skip_whitespace(text, at);
+    match rows::ints(text, from, CEILING, reading.count, lits) {
+        Row::Ends { place, count } => line_read(text, place, solution, Assignment::Begun, count),
+        Row::Closes { place, count } => {
+            line_read(text, place, solution, Assignment::Closed, count)
+        }
+        Row::Stops { refusal, count } => Line::Answer(Log::Refused { refusal, count }),
+    }
+}
+
+// A solution line after its `s `.
+pub fn solution_line(text: &[u8], at: usize, reading: Reading) -> Line
+    ensures { λ r. ⌜ Counted (reading .count) (λ so. lineOf (solutionLine (now (text .entry)) at (stateOf reading so))) r ⌝ }
+{
+    let assignment = reading.assignment;
+    let count = reading.count;
+    let yes = token::fixed(text, at, b"SATISFIABLE");
+    if yes != at {
+        return line_read(text, yes, Solution::Said(Verdict::Yes), assignment, count);
+    }
+    let no = token::fixed(text, at, b"UNSATISFIABLE");
+    if no != at {
+        return line_read(text, no, Solution::Said(Verdict::No), assignment, count);
+    }
+    let unknown = token::fixed(text, at, b"UNKNOWN");
+    if unknown != at {
+        return line_read(
+            text,
+            unknown,
+            Solution::Said(Verdict::Unknown),
+            assignment,
+            count,
+        );
+    }
+    refused(text, SOLUTION_EXPECTED, at, count)
+}
+
+// The verdict, which is unknown if no solution line came.
+fn verdict_of(solution: Solution) -> Verdict
+    ensures { λ r. ⌜ r ≡ verdictOf solution ⌝ }
+{
+    match solution {
+        Solution::Unsaid => Verdict::Unknown,
+        Solution::Said(verdict) => verdict,
+    }
+}
+
+// The end of the text, which may not come while the assignment is open.
+pub fn log_end(text: &[u8], reading: Reading) -> Log
+    ensures { λ r. ⌜ Counted (reading .count) (λ so. logOf (logEnd (now (text .entry)) (reading .place) (reading .solution) so (reading .assignment))) r ⌝ }
+{
+    let solution = reading.solution;
+    let assignment = reading.assignment;
+    let count = reading.count;
+    let verdict = verdict_of(solution);
+    match assignment {
+        Assignment::Unbegun => Log::Accepted { verdict, count },
+        Assignment::Begun => Log::Refused {
+            refusal: refuse(text, ASSIGNMENT_OPEN, reading.place),
+            count,
+        },
+        Assignment::Closed => Log::Accepted { verdict, count },
+    }
+}
+
+// A line of no permitted kind: refused, or skipped in the lenient mode.
+pub fn other_line(text: &[u8], mode: Mode, reading: Reading) -> Line
+    ensures { λ r. ⌜ Counted (reading .count) (λ so. lineOf (otherLine (now (text .entry)) mode (stateOf reading so))) r ⌝ }
+{
+    let place = reading.place;
+    let solution = reading.solution;
+    let assignment = reading.assignment;
+    let count = reading.count;
+    match mode {
+        Mode::Strict => refused(text, LOG_LINE_EXPECTED, place, count),
+        Mode::Lenient => Line::Again(Reading {
+            place: token::interactive_skip_line(text, place),
+            solution,
+            assignment,
+            count,
+        }),
+    }
+}
