@@ -1,4 +1,4 @@
--- The texts on both sides of document 01, with what the definition says of each.
+-- The texts on both sides of document 01, with what the definition says of each. Assumes nothing.
 use Prim.Native.Nat.{ℕ}
 use Prim.Native.String.{String}
 use mathlib.Core.List.{List, [], _∷_, map}
