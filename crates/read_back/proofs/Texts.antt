@@ -9,19 +9,17 @@ use borrow.Author.Tests.{le-leb, lt-leb, lt-ltb, eqb-true, eqb-false}
 use lib.Dec.{leb, eqb}
 use lib.ListN.{length, getD}
 use Rattle.dimacs.specs.Names.{ceiling, largest}
-use Rattle.dimacs.specs.Tokens.{none, unsigned, intAt, uintAt, bracedUintAt}
-use Rattle.dimacs.specs.Clauses.{Answered, ended, says, absent, noClause, body, plainAt, weightedAt, groupedAt, clauseAt}
+use Rattle.dimacs.specs.Tokens.{none, unsigned}
+use Rattle.dimacs.specs.Clauses.{Answered, ended, says, absent, noClause, clauseAt}
 use Rattle.dimacs.specs.Texts.{cursorAt, oneMore, nextClause, answerAt, settled, turnBy, turn, answersFrom}
 use Rattle.dimacs.specs.Writing.{clauseLine}
 use Rattle.dimacs.specs.declared.Format.{Format}
-use Rattle.dimacs.specs.declared.Format.the-variants.{Plain, Weighted, Grouped}
 use Rattle.dimacs.specs.declared.Limits.{Limits}
-use Rattle.dimacs.specs.declared.Int.the-variants as int
 use Rattle.dimacs.specs.declared.Final.the-variants as final
 use Rattle.dimacs.proofs.Tests.{chosen}
 use Rattle.dimacs.proofs.Lines.{no-byte}
-use Rattle.dimacs.proofs.Numbers.{read-none, read-end, unsigned-none, minus-no, braced-no, int-missing}
-use Rattle.dimacs.proofs.Literals.{literals-none}
+use Rattle.dimacs.proofs.Numbers.{read-none, read-end, unsigned-none}
+use Rattle.dimacs.proofs.Literals.{no-clause}
 use Rattle.dimacs.proofs.Texts.{answers-step}
 use Rattle.read_back.specs.ReadBack.{Each, Clause, ClauseFits, answerOf, clauseLines}
 use Rattle.read_back.proofs.Ends.{Ends, start, ends-past, start-fits}
@@ -33,18 +31,12 @@ module _ (s : List ℕ) (at : ℕ) (h : length s ≤ at) where
   no-number : unsigned s at ≡ none
   no-number = unsigned-none (read-end (read-none s at) h) refl
 
-  no-int : (limit : ℕ) → intAt s limit at ≡ int.Missing
-  no-int limit = sym (int-missing s limit at at (sym (minus-no s at (no-byte s at 44 h))) no-number)
-
   end-permitted : noClause s true at ≡ says ended at
   unfolding absent
   end-permitted = rw (le-leb (length s) at h)
 
   clause-none : (f : Format) (limits : Limits) (room : ℕ) → clauseAt s limits room f true at ≡ says ended at
-  unfolding clauseAt plainAt weightedAt groupedAt body uintAt bracedUintAt
-  clause-none Plain limits room = rw (literals-none s (limits .literals) room at (no-int (limits .literals))) end-permitted
-  clause-none Weighted limits room = rw no-number end-permitted
-  clause-none Grouped limits room = rw (braced-no s at (no-byte s at 122 h)) end-permitted
+  clause-none f limits room = no-clause s at no-number (no-byte s at 44 h) (no-byte s at 122 h) limits room f true ∙ end-permitted
 
 pub lines-open : (f : Format) (cs : List Clause) → Opener (getD (clauseLines f cs) 0 0)
 unfolding clauseLines
