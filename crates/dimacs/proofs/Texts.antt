@@ -1,8 +1,9 @@
--- A text of n bytes has at most (n + 1) / 2 clauses; its answers end in one end or one refusal, which is then repeated. Assumes nothing.
+-- A text of n bytes has at most (n + 1) / 2 clauses; its answers end in one end or one refusal, which is then repeated and whose place is within
+-- the text. Assumes nothing.
 use Prim.Native.Nat.{ℕ, zero, suc, _+_, _/_, _≤_, _<_, max}
 use mathlib.Core.Bool.{true, false}
 use mathlib.Core.List.{List, [], _∷_}
-use mathlib.Core.Path.{_≡_, refl}
+use mathlib.Core.Path.{_≡_, refl, sym, subst}
 use native.Mathlib.Omega.{arith}
 use lib.Dec.{leb, eqb}
 use lib.ListN.{length}
@@ -197,3 +198,48 @@ text-ends f m room s = go (openingOf s f)
     go (opening.Header h at) = from (limitsOf f m h) at
     go (opening.NoHeader at) = from unlimited at
     go (opening.Refused r) = refl
+
+-- A refusal's place is within the text.
+abbrev pub AnswerWithin : List ℕ → Answer → Type 0
+AnswerWithin s (clause extra so) = Unit {0}
+AnswerWithin s ended = Unit {0}
+AnswerWithin s (refused r so) = r .place ≤ length s
+
+abbrev pub AllWithin : List ℕ → List Answer → Type 0
+AllWithin s [] = Unit {0}
+AllWithin s (a ∷ l) = AnswerWithin s a × AllWithin s l
+
+abbrev pub OpeningWithin : List ℕ → Opening → Type 0
+OpeningWithin s (opening.Header h at) = Unit {0}
+OpeningWithin s (opening.NoHeader at) = Unit {0}
+OpeningWithin s (opening.Refused r) = r .place ≤ length s
+
+module _ (s : List ℕ) (f : Format) (limits : Limits) (room : ℕ) where
+  abbrev from : ℕ → ℕ → List Answer
+  from at count = answersFrom s f limits room (cursorAt at count final.Open)
+
+  answers-within : (n at count : ℕ) → at ≤ length s → toCome s at < n → AllWithin s (from at count)
+  unfolding turn answerAt
+  answers-within zero at count h k = absurd (omega arith)
+  answers-within (suc n) at count h k =
+      let d = nextClause s f limits room count at in
+      subst (AllWithin s) (sym (answers-step s f limits room (cursorAt at count final.Open)))
+      (go (d .place) (d .answer) (next-clause-onward s f limits room count at) (λ e h′ k′. answers-within n e (oneMore count) h′ k′))
+    where
+      go : (e : ℕ) (a : Answer) → Placed s at e a → ((e′ : ℕ) → e′ ≤ length s → toCome s e′ < n → AllWithin s (from e′ (oneMore count)))
+          → AllWithin s (andOn (turnBy (settledBy (cursorAt at count final.Open) e a) a) (answersFrom s f limits room))
+      go e (clause extra so) p next = (tt, next e (p .within) (omega (arith, p .fewer)))
+      go e ended p next = (tt, tt)
+      go e (refused r so) p next = (omega (arith, p .within), tt)
+
+pub text-within : (f : Format) (m : Mode) (room : ℕ) (s : List ℕ) → let t = text f m room s in OpeningWithin s (t .opened) × AllWithin s (t .answers)
+unfolding text
+text-within f m room s = go (openingOf s f) (opening-opens s f)
+  where
+    from-start : (limits : Limits) (at : ℕ) → at ≤ length s → AllWithin s (answersFrom s f limits room (begin at))
+    from-start limits at h = answers-within s f limits room (suc (toCome s at)) at 0 h (omega arith)
+
+    go : (o : Opening) → Opens s o → let t = textBy f m room s o in OpeningWithin s (t .opened) × AllWithin s (t .answers)
+    go (opening.Header h at) k = (tt, from-start (limitsOf f m h) at (k .0))
+    go (opening.NoHeader at) k = (tt, from-start unlimited at k)
+    go (opening.Refused r) k = (k, tt)
