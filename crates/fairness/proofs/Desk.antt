@@ -26,7 +26,7 @@ use Rattle.service.specs.declared.Goes.the-variants.{On, Over}
 use Rattle.tray.specs.declared.TurnDone.{TurnDone}
 use Rattle.tray.specs.Ring as ring
 use Rattle.service.specs.Serving.{within, Reply, opening, answering, saidOf, literalsIn, Serving}
-use Rattle.tray.specs.Ring.{few, waiting, behind, front, Put, namedBy, jobOf, entered, serve, goesOn, went, turnOf, bufferOf, ahead, withdrawOf}
+use Rattle.tray.specs.Ring.{held, waiting, behind, front, Put, namedBy, jobOf, entered, serve, goesOn, went, turnOf, bufferOf, ahead, withdrawOf}
 use Rattle.tray.specs.Answers.{putSays, replyIn, turnSays, withdrawSays}
 use Rattle.fairness.specs.Promises.{Lent, did}
 use Rattle.fairness.proofs.Rings.{length-ring, ring-mod, ring-more, removed, taken-ring}
@@ -64,10 +64,10 @@ viewed d = does (d .answer) (view (d .after))
 module _ (t : Tray) (l : length (t .jobs) ≡ places) where
   full-same : leb places (length (waiting t)) ≡ leb places (t .count)
   full-same =
-      let n = length-ring (t .jobs) (t .head) (few t) in
+      let n = length-ring (t .jobs) (t .head) (held t) in
       tested (leb places (t .count))
-      (λ e. let h = leb-true places (t .count) e in let f : few t ≡ places = omega arith in rw (n, f, e))
-      (λ e. let h = leb-false places (t .count) e in let f : few t ≡ t .count = omega arith in rw (n, f, e))
+      (λ e. let h = leb-true places (t .count) e in let f : held t ≡ places = omega arith in rw (n, f, e))
+      (λ e. let h = leb-false places (t .count) e in let f : held t ≡ t .count = omega arith in rw (n, f, e))
 
   abbrev putViewed : PutDone → Done (Round Job) Reply
   putViewed d = does (putSays (d .answer)) (view (d .tray))
@@ -79,7 +79,7 @@ module _ (t : Tray) (l : length (t .jobs) ≡ places) where
       (λ a. tested (leb largest (t .given)) (λ b. rw (full-same, a, b))
       (λ b.
       let h = leb-false places (t .count) a in
-      let f : few t ≡ t .count = omega arith in
+      let f : held t ≡ t .count = omega arith in
       let g : min (t .count + 1) places ≡ suc (t .count) = omega arith in
       rw (full-same, a, b, f, g)
       (ap (λ w. does (ticketed (t .given + 1)) (round w (t .given + 1)))
@@ -100,25 +100,25 @@ module _ (t : Tray) (l : length (t .jobs) ≡ places) where
   abbrev turnViewed : List ℤ → TurnDone → Done (Round Job) Reply
   turnViewed new d = does (turnSays new (d .answer)) (view (d .tray))
 
-  went-is : (n : ℕ) → few t ≡ suc n → (a : Reply) (g : Goes) (old : List ℤ)
+  went-is : (n : ℕ) → held t ≡ suc n → (a : Reply) (g : Goes) (old : List ℤ)
       → turnViewed (def.laid (literalsIn a) old) (went t (record { said = saidOf a; goes = g }))
       ≡ rota.went desk (t .given) (ring.ring (t .jobs) (t .head + 1) n) (front t .ticket) a (goesBy (front t) g)
   went-is n f a Over old =
-      let m : min (few t - 1) places ≡ n = omega arith in
+      let m : min (held t - 1) places ≡ n = omega arith in
       rw (read-back a old, m)
       (ap (λ w. does (told (front t .ticket) a true) (round w (t .given))) (ring-mod (t .jobs) (behind t 1) (t .head + 1) n (omega arith)))
   went-is n f a (On c) old =
-      let m : min (few t) places ≡ suc n = omega arith in
+      let m : min (held t) places ≡ suc n = omega arith in
       rw (read-back a old, m)
       (ap (λ w. does (told (front t .ticket) a false) (round w (t .given)))
-      (ring-mod (set (t .jobs) (behind t (few t)) (goesOn (front t) c)) (behind t 1) (t .head + 1) (suc n) (omega arith)
-      ∙ ring-more (t .jobs) (behind t (few t)) (goesOn (front t) c) (t .head + 1) n l (omega arith) (omega arith)))
+      (ring-mod (set (t .jobs) (behind t (held t)) (goesOn (front t) c)) (behind t 1) (t .head + 1) (suc n) (omega arith)
+      ∙ ring-more (t .jobs) (behind t (held t)) (goesOn (front t) c) (t .head + 1) n l (omega arith) (omega arith)))
 
   turn-is : (e : Lent) → turnViewed (bufferOf t (e .area) (e .buffer)) (turnOf t (e .area) (length (e .buffer))) ≡ rota.turnBy desk e (t .given) (waiting t)
   unfolding turnOf bufferOf
-  turn-is e = go (few t) refl
+  turn-is e = go (held t) refl
     where
-      go : (n : ℕ) → few t ≡ n
+      go : (n : ℕ) → held t ≡ n
           → turnViewed (bufferOf t (e .area) (e .buffer)) (turnOf t (e .area) (length (e .buffer))) ≡ rota.turnBy desk e (t .given) (waiting t)
       go zero f = let z : t .count ≡ 0 = omega arith in rw (eq-eqb (t .count) 0 z, f)
       go (suc n) f =
@@ -148,14 +148,14 @@ module _ (t : Tray) (l : length (t .jobs) ≡ places) where
   unfolding withdrawOf
   withdraw-is k =
       let w = waits-ahead k (waiting t) in
-      let n = length-ring (t .jobs) (t .head) (few t) in
-      tested (ltb (ahead k (waiting t)) (few t))
+      let n = length-ring (t .jobs) (t .head) (held t) in
+      tested (ltb (ahead k (waiting t)) (held t))
       (λ i.
-      let h = ltb-true (ahead k (waiting t)) (few t) i in
+      let h = ltb-true (ahead k (waiting t)) (held t) i in
       let q : waits (λ j. j .ticket) k (waiting t) ≡ true = w ∙ rw n i in
       rw (i, q)
       (ap (λ x. does (withdrawn k) (round x (t .given)))
-      (taken-ring (t .jobs) (t .head) (few t) (ahead k (waiting t)) l (omega arith) h ∙ sym (without-ahead k (waiting t)))))
+      (taken-ring (t .jobs) (t .head) (held t) (ahead k (waiting t)) l (omega arith) h ∙ sym (without-ahead k (waiting t)))))
       (λ i. let q : waits (λ j. j .ticket) k (waiting t) ≡ false = w ∙ rw n i in rw (i, q))
 
   pub call-is : (c : Call Put Lent) → viewed (did t c) ≡ rota.call desk (view t) c

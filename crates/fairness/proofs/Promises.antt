@@ -28,7 +28,7 @@ use Rattle.service.specs.declared.Goes.{Goes}
 use Rattle.service.specs.declared.Goes.the-variants.{On, Over}
 use Rattle.service.specs.declared.Said.{Said}
 use Rattle.service.specs.Serving.{within, Reply, servedOf}
-use Rattle.tray.specs.Ring.{emptyTray, few, waiting, behind, front, Put, putBy, namedBy, jobOf, entered as enteredAs, serve, goesOn, wentBy, turnOf, Turns, ahead, withdrawOf}
+use Rattle.tray.specs.Ring.{emptyTray, held, waiting, behind, front, Put, putBy, namedBy, jobOf, entered as enteredAs, serve, goesOn, wentBy, turnOf, Turns, ahead, withdrawOf}
 use Rattle.tray.specs.declared.TurnDone.{TurnDone}
 use Rattle.tray.specs.Answers.{turnSays}
 use Rattle.fairness.specs.Promises.{Lent, Calls, did, answered, left, thenPut, since, Holds, saidAlone, Account, Tickets, Few, Bound, Content, Demand, Silence}
@@ -53,7 +53,7 @@ length-put t p (named.Begins s) =
     (λ w. rw w)
 
 length-went : (t : Tray) (a : Said) (g : Goes) → length (wentBy t a g .tray .jobs) ≡ length (t .jobs)
-length-went t a (On c) = length-set (t .jobs) (behind t (few t)) (goesOn (front t) c)
+length-went t a (On c) = length-set (t .jobs) (behind t (held t)) (goesOn (front t) c)
 length-went t a Over = refl
 
 length-call : (t : Tray) (c : Call Put Lent) → length (did t c .after .jobs) ≡ length (t .jobs)
@@ -65,7 +65,7 @@ length-call t (turn e) =
     (λ b. rw (a, b) (let v = servedOf (serve (e .area) (front t)) in length-went t (v .said) (v .goes))))
 length-call t (withdraw k) =
     let i = ahead k (waiting t) in
-    tested (ltb i (few t)) (λ a. rw a (length-moved (few t - (i + 1)) (t .jobs) (t .head % places) i)) (λ a. rw a)
+    tested (ltb i (held t)) (λ a. rw a (length-moved (held t - (i + 1)) (t .jobs) (t .head % places) i)) (λ a. rw a)
 
 -- Any calls on a record are those calls on the round for which it stands.
 answers-are : (cs : Calls) (t : Tray) → length (t .jobs) ≡ places → answers did t cs ≡ answers (rota.call desk) (view t) cs

@@ -6,7 +6,7 @@ use mathlib.Core.Option.{Option, none, some}
 use mathlib.Core.Path.{_≡_, refl, ap, sym, subst}
 use native.Mathlib.Omega.{arith}
 use borrow.Author.Tests.{le-leb, leb-true}
-use lib.ListN.{length, length-take, length-drop}
+use lib.ListN.{length, take, drop, length-take, length-drop}
 use Rattle.dimacs.specs.Names.{formatOf, modeOf, ownRoom}
 use Rattle.dimacs.specs.Header.{openingOf, unlimited, limitsOf}
 use Rattle.dimacs.specs.Clauses as def
@@ -35,7 +35,7 @@ use Rattle.tray.specs.declared.Job.{Job}
 use Rattle.service.specs.declared.Goes.{Goes}
 use Rattle.service.specs.declared.Goes.the-variants.{On, Over}
 use Rattle.service.specs.Serving.{within, Reply, opening, answering, openingGoes, nextGoes, serving, servedPart}
-use Rattle.tray.specs.Ring.{part, Put, namedBy, jobOf, serve, goesOn}
+use Rattle.tray.specs.Ring.{Put, namedBy, jobOf, serve, goesOn}
 use Rattle.fairness.specs.Promises.{Lent, Holds, saidAlone}
 use Rattle.fairness.proofs.Desk.{entryBy, goesBy, servedBy, desk}
 
@@ -62,6 +62,10 @@ serving-falls s (stage.Reading x) c h = go (stepOf s ownRoom x .cursor) (stepOf 
     go y (next.Clause extra n) l g = let e : y ≡ c = cc in subst (λ z. toCome s (z .place) < toCome s (x .place)) e (l .1)
     go y next.Ended l g = over g
     go y (next.Refused r n) l g = over g
+
+-- A job's own part of an area.
+abbrev part : Job → List ℕ → List ℕ
+part j area = take (j .length) (drop (j .start) area)
 
 -- A job goes on with a cursor, and its part was within the area.
 record GoesOn (j : Job) (area : List ℕ) (j′ : Job) : Type 0 where

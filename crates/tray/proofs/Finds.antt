@@ -6,7 +6,7 @@ use native.Mathlib.Omega.{arith}
 use borrow.Author.Tests.{eq-eqb, ne-eqb, lt-ltb, le-ltb}
 use lib.ListN.{getD, set}
 use Rattle.dimacs.specs.Names.{Reason, numberOf, places}
-use Rattle.tray.specs.Ring.{ring, noJob, few, ahead, movedUp, closedUp, withdrawAt, withdrawOf}
+use Rattle.tray.specs.Ring.{ring, noJob, held, ahead, movedUp, closedUp, withdrawAt, withdrawOf}
 use Rattle.tray.specs.declared.Job.{Job}
 use Rattle.tray.specs.declared.Tray.{Tray}
 use Rattle.tray.specs.declared.WithdrawAnswer.the-variants.{Refused, Withdrawn}
@@ -55,13 +55,13 @@ pub stopped : (js : List Job) (h i n : ℕ) → n ≤ i + 1 → movedUp js h i (
 unfolding movedUp
 stopped js h i n l = let a : n - (i + 1) ≡ 0 = omega arith in rw a
 
-module _ (t : Tray) (k n i : ℕ) (a : n ≡ few t) (b : i ≡ ahead k (ring (t .jobs) (t .head) n)) where
+module _ (t : Tray) (k n i : ℕ) (a : n ≡ held t) (b : i ≡ ahead k (ring (t .jobs) (t .head) n)) where
   same-at : withdrawAt t k i ≡ withdrawOf t k
   unfolding withdrawOf
   same-at = rw (b, a)
 
   pub taken : i < n → (u : Tray) → u ≡ closedUp t n i → record { tray = u; answer = Withdrawn k } ≡ withdrawOf t k
-  taken l u e = rw (e, a) (rw (lt-ltb i (few t) (omega arith)) at same-at)
+  taken l u e = rw (e, a) (rw (lt-ltb i (held t) (omega arith)) at same-at)
 
   pub absent : n ≤ i → record { tray = t; answer = Refused (numberOf Reason.ticketNotWaiting) } ≡ withdrawOf t k
-  absent l = rw (le-ltb i (few t) (omega arith)) at same-at
+  absent l = rw (le-ltb i (held t) (omega arith)) at same-at

@@ -4,7 +4,7 @@ use mathlib.Core.Bool.{Bool, true, false, cond}
 use mathlib.Core.List.{List, [], _∷_}
 use mathlib.Core.Option.{Option, none, some}
 use mathlib.Core.Path.{_≡_}
-use lib.ListN.{length, getD, set, take, drop, replicate}
+use lib.ListN.{length, getD, set, replicate}
 use lib.Dec.{leb, ltb, eqb}
 use lib.IntN.{ℤ}
 use Rattle.dimacs.specs.Names.{Reason, numberOf, formatOf, modeOf, largest, ownRoom, places}
@@ -51,12 +51,12 @@ ring js h (suc n) = getD js (h % places) noJob ∷ ring js (h + 1) n
 
 module _ (t : Tray) where
   -- How many jobs wait. In a record that counts more than there are places, all places are taken.
-  abbrev pub few : ℕ
-  few = min (t .count) places
+  abbrev pub held : ℕ
+  held = min (t .count) places
 
   -- The jobs that wait, from the front on.
   abbrev pub waiting : List Job
-  waiting = ring (t .jobs) (t .head) few
+  waiting = ring (t .jobs) (t .head) held
 
   -- The place that is so many behind the front.
   abbrev pub behind : ℕ → ℕ
@@ -104,10 +104,6 @@ putBy t p (named.Begins s) = cond (within (p .start) (p .length) (p .lent)) (ent
 abbrev pub putOf : Tray → Put → PutDone
 putOf t p = putBy t p (namedBy (formatOf (p .format)) (modeOf (p .mode)))
 
--- A job's own part of an area.
-abbrev pub part : Job → List ℕ → List ℕ
-part j area = take (j .length) (drop (j .start) area)
-
 -- Serving a job with an area.
 unfoldable pub serve : List ℕ → Job → Serving
 serve area j = servedPart area (j .start) (j .length) ownRoom (j .stage)
@@ -120,12 +116,12 @@ goesOn j c = jobOf (j .ticket) (j .start) (j .length) (stage.Reading c)
 abbrev pub wentBy : Tray → Said → Goes → TurnDone
 wentBy t a (On c) =
     record {
-      tray = record { jobs = set (t .jobs) (behind t (few t)) (goesOn (front t) c); head = behind t 1; count = few t; given = t .given };
+      tray = record { jobs = set (t .jobs) (behind t (held t)) (goesOn (front t) c); head = behind t 1; count = held t; given = t .given };
       answer = turning.Told (front t .ticket) a false;
     }
 wentBy t a Over =
     record {
-      tray = record { jobs = t .jobs; head = behind t 1; count = few t - 1; given = t .given };
+      tray = record { jobs = t .jobs; head = behind t 1; count = held t - 1; given = t .given };
       answer = turning.Told (front t .ticket) a true;
     }
 
@@ -169,7 +165,7 @@ closedUp t n i = record { jobs = movedUp (t .jobs) (t .head % places) i (n - (i 
 -- A withdrawal of a ticket that has so many jobs ahead of it.
 abbrev pub withdrawAt : Tray → ℕ → ℕ → WithdrawDone
 withdrawAt t k i =
-    cond (ltb i (few t)) (record { tray = closedUp t (few t) i; answer = withdrawing.Withdrawn k })
+    cond (ltb i (held t)) (record { tray = closedUp t (held t) i; answer = withdrawing.Withdrawn k })
     (record { tray = t; answer = withdrawing.Refused (numberOf Reason.ticketNotWaiting) })
 
 -- A withdrawal.

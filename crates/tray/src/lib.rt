@@ -168,7 +168,7 @@ pub struct TurnDone {
 }
 
 // How many jobs wait, as far as there are places.
-fn few(count: usize) -> usize
+fn held(count: usize) -> usize
     ensures { λ r. ⌜ r ≡ min count places ⌝ }
 {
     if count < PLACES {
@@ -183,7 +183,7 @@ fn pass(mut tray: Tray, served: Served) -> TurnDone
     ensures { λ r. ⌜ r ≡ went tray served ⌝ }
 {
     let head = tray.head % PLACES;
-    let waiting = few(tray.count);
+    let waiting = held(tray.count);
     let job = tray.jobs[head];
     let ticket = job.ticket;
     let said = served.said;
@@ -297,7 +297,7 @@ fn close_up(mut tray: Tray, count: usize, from: usize) -> Tray
 pub fn withdraw(tray: Tray, ticket: u64) -> WithdrawDone
     ensures { λ r. ⌜ r ≡ withdrawOf tray ticket ⌝ }
 {
-    let count = few(tray.count);
+    let count = held(tray.count);
     let i = find(tray, count, ticket);
     if i < count {
         return WithdrawDone {

@@ -3,8 +3,8 @@ use borrow.Author.Needs.{needs}
 use Rattle.tray.proofs.pass.Statement.{statement}
 use Rattle.tray.proofs.pass.Tie as tie
 
-few-requires : tie.Need-few-requires
-few-requires c κs = search needs
+held-requires : tie.Need-held-requires
+held-requires c κs = search needs
 
 mul-job : tie.Need-mul-job
 mul-job c = search needs
@@ -34,16 +34,16 @@ sub-tray : tie.Need-sub-tray
 sub-tray c = search needs
 
 returns : tie.Need-returns
-returns c = let e = c .before .goes .given .1 in let n = c .before .before .before .before .few .ensures in rw (e, n)
+returns c = let e = c .before .goes .given .1 in let n = c .before .before .before .before .held .ensures in rw (e, n)
 
 returns-2 : tie.Need-returns-2
-returns-2 c = let e = c .enum-told .given .1 in let n = c .before .before .before .few .ensures in rw (e, n)
+returns-2 c = let e = c .enum-told .given .1 in let n = c .before .before .before .held .ensures in rw (e, n)
 
 pub pass-spec : {M : Type 1} → statement M
 pass-spec =
     tie.close
     (tie.spec
-    few-requires
+    held-requires
     mul-job
     element-copy-out-job
     add-tray

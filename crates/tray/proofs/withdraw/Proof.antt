@@ -4,8 +4,8 @@ use borrow.Author.Needs.{needs}
 use Rattle.tray.proofs.withdraw.Statement.{statement}
 use Rattle.tray.proofs.withdraw.Tie as tie
 
-few-requires : tie.Need-few-requires
-few-requires c κs = search needs
+held-requires : tie.Need-held-requires
+held-requires c κs = search needs
 
 find-requires : tie.Need-find-requires
 find-requires c κs = search needs
@@ -14,10 +14,10 @@ close-up-requires : tie.Need-close-up-requires
 close-up-requires c κs = search needs
 
 returns : tie.Need-returns
-returns c = let a = c .before .before .before .before .args in taken (a .tray) (a .ticket) _ _ (c .before .before .before .few .ensures) (c .before .before .find .ensures) (c .before .if1 .taken) _ (c .close-up .ensures)
+returns c = let a = c .before .before .before .before .args in taken (a .tray) (a .ticket) _ _ (c .before .before .before .held .ensures) (c .before .before .find .ensures) (c .before .if1 .taken) _ (c .close-up .ensures)
 
 returns-2 : tie.Need-returns-2
-returns-2 c = let a = c .before .before .before .args in absent (a .tray) (a .ticket) _ _ (c .before .before .few .ensures) (c .before .find .ensures) (c .if1 .left)
+returns-2 c = let a = c .before .before .before .args in absent (a .tray) (a .ticket) _ _ (c .before .before .held .ensures) (c .before .find .ensures) (c .if1 .left)
 
 pub withdraw-spec : {M : Type 1} → statement M
-withdraw-spec = tie.close (tie.spec few-requires find-requires close-up-requires returns returns-2)
+withdraw-spec = tie.close (tie.spec held-requires find-requires close-up-requires returns returns-2)
