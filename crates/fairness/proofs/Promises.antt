@@ -12,7 +12,7 @@ use Rattle.dimacs.specs.declared.Format.{Format}
 use Rattle.dimacs.specs.declared.Mode.{Mode}
 use Rattle.dimacs.proofs.Tests.{tested}
 use Rattle.rota.specs.Rota as rota
-use Rattle.rota.specs.Rota.{Call, put, turn, withdraw, ticketed, Done, does, answers, finally, heard, Round, fresh}
+use Rattle.rota.specs.Rota.{Call, put, turn, withdraw, Answer, refused, ticketed, withdrawn, ticketIn, Done, does, answers, finally, heard, Round, fresh}
 use Rattle.rota.proofs.Account.{account, in-order}
 use Rattle.rota.proofs.Tickets.{Sound, sound, sound-call}
 use Rattle.rota.proofs.Gone.{no-more}
@@ -28,10 +28,10 @@ use Rattle.service.specs.declared.Goes.{Goes}
 use Rattle.service.specs.declared.Goes.the-variants.{On, Over}
 use Rattle.service.specs.declared.Said.{Said}
 use Rattle.service.specs.Serving.{within, Reply, servedOf}
-use Rattle.tray.specs.Ring.{emptyTray, held, waiting, behind, front, Put, putBy, namedBy, jobOf, entered as enteredAs, serve, goesOn, wentBy, turnOf, Turns, ahead, withdrawOf}
+use Rattle.tray.specs.Ring.{emptyTray, held, waiting, behind, front, Put, putBy, namedBy, jobOf, entered as enteredAs, serve, goesOn, wentBy, turnOf, bufferOf, Turns, ahead, withdrawOf}
 use Rattle.tray.specs.declared.TurnDone.{TurnDone}
-use Rattle.tray.specs.Answers.{turnSays}
-use Rattle.fairness.specs.Promises.{Lent, Calls, did, answered, left, thenPut, since, Holds, saidAlone, Account, Tickets, Few, Bound, Content, Demand, Silence}
+use Rattle.tray.specs.Answers.{putSays, turnSays, withdrawSays}
+use Rattle.fairness.specs.Promises.{Lent, Calls, did, BufferKept, Refusals, answered, left, thenPut, since, Holds, saidAlone, Account, Tickets, Few, Bound, Content, Demand, Silence}
 use Rattle.fairness.proofs.Rings.{length-moved}
 use Rattle.fairness.proofs.Desk.{view, desk, call-is}
 use Rattle.fairness.proofs.Reader.{leftOf, falls, PartOf, lasts, Begins, entry-begins, lawful, solo, alike, whole}
@@ -40,6 +40,43 @@ use Rattle.fairness.proofs.Reader.{leftOf, falls, PartOf, lasts, Begins
 pub turn-did : {t : Tray} {area : List ℕ} {old new : List ℤ} {r : TurnDone} → Turns t area old new r
     → does (turnSays new (r .answer)) (r .tray) ≡ did t (turn (record { area = area; buffer = old }))
 turn-did h = rw (h .done, h .buffer)
+
+ticketless : (x : Answer Reply) (n : ℕ) → x ≡ refused n → ticketIn x ≡ 0
+ticketless x n h = rw h
+
+put-refused : (t : Tray) (p : Put) (x : Named) (n : ℕ) → putSays (putBy t p x .answer) ≡ refused n → putBy t p x .tray ≡ t
+unfolding enteredAs
+put-refused t p named.Unknown n h = refl
+put-refused t p (named.Begins s) n h =
+    tested (within (p .start) (p .length) (p .lent))
+    (λ w. tested (leb places (t .count)) (λ a. rw (w, a)) (λ a. tested (leb largest (t .given)) (λ b. rw (w, a, b)) (λ b. given (rw (w, a, b) at h))))
+    (λ w. rw w)
+  where
+    given : {X : Type 0} {k : ℕ} → _≡_ {A = Answer Reply} (ticketed k) (refused n) → X
+    given e = let z : _≡_ {A = ℕ} 0 1 = cc in absurd (omega arith)
+
+turn-refused : (t : Tray) (e : Lent) (n : ℕ) → did t (turn e) .answer ≡ refused n → (did t (turn e) .after ≡ t) × BufferKept t (turn e)
+unfolding turnOf bufferOf
+turn-refused t e n h =
+    tested (eqb (t .count) 0) (λ a. rw a (refl, refl))
+    (λ a. tested (ltb (length (e .buffer)) ownRoom) (λ b. rw (a, b) (refl, refl))
+    (λ b. let v = servedOf (serve (e .area) (front t)) in served _ (v .said) (v .goes) (rw (a, b) at h)))
+  where
+    served : {X : Type 0} (new : List ℤ) (a : Said) (g : Goes) → turnSays new (wentBy t a g .answer) ≡ refused n → X
+    served new a (On c) k = let z : _≡_ {A = ℕ} 0 1 = cc in absurd (omega arith)
+    served new a Over k = let z : _≡_ {A = ℕ} 0 1 = cc in absurd (omega arith)
+
+withdraw-refused : (t : Tray) (k n : ℕ) → withdrawSays (withdrawOf t k .answer) ≡ refused n → withdrawOf t k .tray ≡ t
+unfolding withdrawOf
+withdraw-refused t k n h = tested (ltb (ahead k (waiting t)) (held t)) (λ a. gone (rw a at h)) (λ a. rw a)
+  where
+    gone : {X : Type 0} → _≡_ {A = Answer Reply} (withdrawn k) (refused n) → X
+    gone e = let z : _≡_ {A = ℕ} 0 1 = cc in absurd (omega arith)
+
+pub tray-refusals : Refusals
+tray-refusals t (put p) n h = (ticketless (did t (put p) .answer) n h, put-refused t p (namedBy (formatOf (p .format)) (modeOf (p .mode))) n h, tt)
+tray-refusals t (turn e) n h = let k = turn-refused t e n h in (ticketless (did t (turn e) .answer) n h, k .0, k .1)
+tray-refusals t (withdraw k) n h = (ticketless (did t (withdraw k) .answer) n h, withdraw-refused t k n h, tt)
 
 -- A tray keeps all its places.
 length-put : (t : Tray) (p : Put) (x : Named) → length (putBy t p x .tray .jobs) ≡ length (t .jobs)

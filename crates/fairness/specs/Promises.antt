@@ -10,7 +10,7 @@ use Rattle.dimacs.specs.Names.{formatOf, modeOf, ownRoom, places}
 use Rattle.dimacs.specs.Texts.{text}
 use Rattle.dimacs.specs.declared.Format.{Format}
 use Rattle.dimacs.specs.declared.Mode.{Mode}
-use Rattle.rota.specs.Rota.{Call, put, turn, withdraw, Answer, ticketed, Done, does, answers, finally, tickets, upward, verdicts, withdrawals, isWithdrawn, turns, heard, toTheLast, concluded, AtOwnTurns, Hears}
+use Rattle.rota.specs.Rota.{Call, put, turn, withdraw, Answer, refused, ticketed, ticketIn, Done, does, answers, finally, tickets, upward, verdicts, withdrawals, isWithdrawn, turns, heard, toTheLast, concluded, AtOwnTurns, Hears}
 use Rattle.tray.specs.declared.Tray.{Tray}
 use Rattle.service.specs.Serving.{Reply, opening, answering}
 use Rattle.tray.specs.Ring.{emptyTray, waiting, Put, putOf, turnOf, bufferOf, withdrawOf}
@@ -31,6 +31,16 @@ did t (put p) = let d = putOf t p in does (putSays (d .answer)) (d .tray)
 did t (turn e) =
     let d = turnOf t (e .area) (length (e .buffer)) in does (turnSays (bufferOf t (e .area) (e .buffer)) (d .answer)) (d .tray)
 did t (withdraw k) = let d = withdrawOf t k in does (withdrawSays (d .answer)) (d .tray)
+
+-- The buffer is as it was. Only a turn is lent one.
+abbrev pub BufferKept : Tray → Call Put Lent → Type 0
+BufferKept t (put p) = Unit {0}
+BufferKept t (turn e) = bufferOf t (e .area) (e .buffer) ≡ e .buffer
+BufferKept t (withdraw k) = Unit {0}
+
+-- A call on any record that is refused answers ticket 0 and changes neither the tray nor the buffer.
+abbrev pub Refusals : Type 0
+Refusals = (t : Tray) (c : Call Put Lent) (n : ℕ) → did t c .answer ≡ refused n → (ticketIn (did t c .answer) ≡ 0) × (did t c .after ≡ t) × BufferKept t c
 
 module _ (calls : Calls) where
   -- The answers of calls from a fresh tray.
