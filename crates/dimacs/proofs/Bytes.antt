@@ -11,7 +11,7 @@ or-true : (a b : Bool) → b ≡ true → a || b ≡ true
 or-true true b h = refl
 or-true false b h = h
 
-and-false : (a b : Bool) → b ≡ false → a && b ≡ false
+pub and-false : (a b : Bool) → b ≡ false → a && b ≡ false
 and-false true b h = h
 and-false false b h = refl
 

@@ -12,6 +12,7 @@ pub mod Rows
 pub mod Clauses
 pub mod Buffer
 pub mod Literals
+pub mod Order
 pub mod Texts
 pub mod Logs
 pub mod Writing

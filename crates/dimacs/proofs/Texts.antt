@@ -1,6 +1,6 @@
 -- A text of n bytes has at most (n + 1) / 2 clauses; its answers end in one end or one refusal, which is then repeated and whose place is within
 -- the text. Assumes nothing.
-use Prim.Native.Nat.{ℕ, zero, suc, _+_, _/_, _≤_, _<_, max}
+use Prim.Native.Nat.{ℕ, zero, suc, _+_, _/_, _≤_, _<_}
 use mathlib.Core.Bool.{true, false}
 use mathlib.Core.List.{List, [], _∷_}
 use mathlib.Core.Path.{_≡_, refl, sym, subst}
@@ -8,13 +8,12 @@ use native.Mathlib.Omega.{arith}
 use lib.Dec.{leb, eqb}
 use lib.ListN.{length}
 use lib.IntN.{ℤ}
-use Rattle.dimacs.specs.Loop.{Turn, on, last}
 use Rattle.dimacs.specs.Bytes.{bytes}
 use Rattle.dimacs.specs.Names.{Reason, numbered, refusal, ceiling, largest}
 use Rattle.dimacs.specs.Tokens.{unmoved, blanks, lines, word, uintAt, endOfLine, lineEnds}
 use Rattle.dimacs.specs.Header.{formatWord, headerOf, counted, headerEnd, thirdThere, thirdCount, clauseCount, variableCount, afterP, openingOf, unlimited, limitsOf}
 use Rattle.dimacs.specs.Clauses.{Answer, clause, ended, refused, Answered, says, noClause, clauseAt}
-use Rattle.dimacs.specs.Texts.{Cursor, cursorAt, oneMore, nextClause, answerBy, answerAt, settledBy, settled, turnBy, turn, answersFrom, begin, Text, textBy, text}
+use Rattle.dimacs.specs.Texts.{Cursor, cursorAt, oneMore, nextClause, answerBy, answerAt, settledBy, settled, turnBy, turn, answersFrom, begin, textBy, text}
 use Rattle.dimacs.specs.declared.Format.{Format}
 use Rattle.dimacs.specs.declared.Limits.{Limits}
 use Rattle.dimacs.specs.declared.Format.the-variants.{Plain, Weighted, Grouped}
@@ -31,7 +30,7 @@ use Rattle.dimacs.specs.declared.Final.{Final}
 use Rattle.dimacs.specs.declared.Final.the-variants as final
 use Rattle.dimacs.proofs.Loops.{andOn, Gives, Lowers, said-unrolled, said-has}
 use Rattle.dimacs.proofs.Tests.{chosen}
-use Rattle.dimacs.proofs.Spans.{Spans, then-spans, EndCloses, end-closes, blanks-spans, lines-spans, word-spans, UintMoves, uint-moves, UintWithin, uint-within}
+use Rattle.dimacs.proofs.Spans.{then-spans, EndCloses, end-closes, blanks-spans, lines-spans, word-spans, UintMoves, uint-moves, UintWithin, uint-within}
 use Rattle.dimacs.proofs.Clauses.{toCome, Placed, Onward, back, absent-onward, clause-at-onward, Fits, absent-fits, clause-at-fits}
 
 -- Where a text opens: the clauses begin, or the header is refused, within the text, and no more variables are counted than the ceiling.

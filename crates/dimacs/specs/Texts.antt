@@ -34,7 +34,7 @@ oneMore n = cond (ltb n largest) (n + 1) n
 module _ (s : List ℕ) (f : Format) (limits : Limits) (room : ℕ) where
   -- Blanks are skipped. "A clause if the count is not reached or not applied, else a comment, else a line end, else the end of text if the
   -- count is reached or not applied, else refusal 9, and again after a comment or line end": since no clause begins with `c`, CR or LF, that is to
-  -- skip the comments and line ends first.
+  -- skip the comments and line ends first, as proofs/Order.antt shows.
   unfoldable pub nextClause : ℕ → ℕ → Answered
   nextClause count at =
       let e = lines s (blanks s at) in

@@ -2,7 +2,7 @@
 use Prim.Native.Nat.{ℕ, suc, _+_, _≤_}
 use mathlib.Core.Bool.{true, false, cond}
 use mathlib.Core.List.{List, [], _∷_, _++_, map}
-use mathlib.Core.Path.{_≡_, refl, ap, sym, _∙_}
+use mathlib.Core.Path.{_≡_, refl, ap, _∙_}
 use mathlib.Core.Logic.{_⊎_, inl, inr, ⊎-elim}
 use native.Mathlib.Omega.{arith}
 use borrow.Author.Tests.{le-leb, lt-leb, lt-ltb, eqb-true, eqb-false}
@@ -19,7 +19,7 @@ use Rattle.dimacs.specs.declared.Final.the-variants as final
 use Rattle.dimacs.proofs.Tests.{chosen}
 use Rattle.dimacs.proofs.Lines.{no-byte}
 use Rattle.dimacs.proofs.Numbers.{read-none, read-end, unsigned-none}
-use Rattle.dimacs.proofs.Literals.{no-clause}
+use Rattle.dimacs.proofs.Order.{bare-none, no-clause}
 use Rattle.dimacs.proofs.Texts.{answers-step}
 use Rattle.read_back.specs.ReadBack.{Each, Clause, ClauseFits, answerOf, clauseLines}
 use Rattle.read_back.proofs.Ends.{Ends, start, ends-past, start-fits}
@@ -36,7 +36,8 @@ module _ (s : List ℕ) (at : ℕ) (h : length s ≤ at) where
   end-permitted = rw (le-leb (length s) at h)
 
   clause-none : (f : Format) (limits : Limits) (room : ℕ) → clauseAt s limits room f true at ≡ says ended at
-  clause-none f limits room = no-clause s at no-number (no-byte s at 44 h) (no-byte s at 122 h) limits room f true ∙ end-permitted
+  clause-none f limits room =
+      no-clause s limits room f true at (bare-none s limits f at (record { number = no-number; minus = no-byte s at 44 h; brace = no-byte s at 122 h })) ∙ end-permitted
 
 pub lines-open : (f : Format) (cs : List Clause) → Opener (getD (clauseLines f cs) 0 0)
 unfolding clauseLines

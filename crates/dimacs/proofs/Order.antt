@@ -1,0 +1,162 @@
+-- The order in which document 01 looks for the next clause comes to the same as skipping the comments and line ends first. Assumes nothing.
+use Prim.Native.Nat.{ℕ, zero, suc, _-_, _<_}
+use mathlib.Core.Bool.{Bool, true, false, cond, not, _&&_, _||_}
+use mathlib.Core.List.{List}
+use mathlib.Core.Path.{_≡_, refl, sym, _∙_}
+use mathlib.Core.Logic.{_⊎_, inl, inr}
+use native.Mathlib.Omega.{arith}
+use borrow.Author.Tests.{eq-eqb, eqb-true, eqb-false}
+use lib.Dec.{leb, eqb}
+use lib.ListN.{length, getD}
+use Rattle.dimacs.specs.Loop.{Step, again, answer, loop}
+use Rattle.dimacs.specs.Names.{largest}
+use Rattle.dimacs.specs.Tokens.{none, unmoved, blanks, lineEnd, comment, newline, commentOrNewline, lines, unsigned, uintAt, bracedUintAt, intAt}
+use Rattle.dimacs.specs.Clauses.{Answered, noClause, body, plainAt, weightedAt, groupedAt, clauseAt}
+use Rattle.dimacs.specs.Texts.{nextClause}
+use Rattle.dimacs.specs.declared.Format.{Format}
+use Rattle.dimacs.specs.declared.Format.the-variants.{Plain, Weighted, Grouped}
+use Rattle.dimacs.specs.declared.Limits.{Limits}
+use Rattle.dimacs.specs.declared.Int.{Int}
+use Rattle.dimacs.specs.declared.Int.the-variants as int
+use Rattle.dimacs.specs.declared.Uint.{Uint}
+use Rattle.dimacs.specs.declared.Uint.the-variants as uint
+use Rattle.dimacs.proofs.Tests.{tested}
+use Rattle.dimacs.proofs.Bytes.{and-false}
+use Rattle.dimacs.proofs.Loops.{after, loop-after}
+use Rattle.dimacs.proofs.Spans.{standing, moved, comment-spans, newline-spans, lines-step}
+use Rattle.dimacs.proofs.Lines.{line-end-no, newline-no, comment-no}
+use Rattle.dimacs.proofs.Numbers.{read-none, read-low, read-high, unsigned-none, minus-no, braced-no, int-missing}
+use Rattle.dimacs.proofs.Literals.{literals-none}
+
+-- A number stands there, whatever its size.
+abbrev pub isInt : Int → Bool
+isInt int.Missing = false
+isInt (int.Zero e) = true
+isInt (int.Literal v e) = true
+isInt int.TooBig = true
+
+abbrev pub isUint : Uint → Bool
+isUint uint.Missing = false
+isUint (uint.Value n e) = true
+isUint uint.TooBig = true
+
+unlike : {X : Type 0} → true ≡ false → X
+unlike e = let z : _≡_ {A = ℕ} 0 1 = cc in absurd (omega arith)
+
+no-int : (i : Int) → isInt i ≡ false → i ≡ int.Missing
+no-int int.Missing h = refl
+no-int (int.Zero e) h = unlike h
+no-int (int.Literal v e) h = unlike h
+no-int int.TooBig h = unlike h
+
+no-uint : (u : Uint) → isUint u ≡ false → u ≡ uint.Missing
+no-uint uint.Missing h = refl
+no-uint (uint.Value n e) h = unlike h
+no-uint uint.TooBig h = unlike h
+
+-- Neither a number, a minus nor a brace stands there.
+pub record Bare (s : List ℕ) (at : ℕ) : Type 0 where
+  pub number : unsigned s at ≡ none
+  pub minus : getD s at 0 ≡ 45 → ⊥
+  pub brace : getD s at 0 ≡ 123 → ⊥
+
+module _ (s : List ℕ) (limits : Limits) where
+  -- A clause stands where its first number does, its weight, or its group.
+  abbrev pub stands : Format → ℕ → Bool
+  stands Plain at = isInt (intAt s (limits .literals) at)
+  stands Weighted at = isUint (uintAt s largest at)
+  stands Grouped at = isUint (bracedUintAt s (limits .groups) at)
+
+  pub bare-none : (f : Format) (at : ℕ) → Bare s at → stands f at ≡ false
+  unfolding uintAt bracedUintAt
+  bare-none Plain at b = rw (sym (int-missing s (limits .literals) at at (sym (minus-no s at (b .minus))) (b .number)))
+  bare-none Weighted at b = rw (b .number)
+  bare-none Grouped at b = rw (braced-no s at (b .brace))
+
+  pub no-clause : (room : ℕ) (f : Format) (endPermitted : Bool) (at : ℕ) → stands f at ≡ false → clauseAt s limits room f endPermitted at ≡ noClause s endPermitted at
+  unfolding clauseAt plainAt weightedAt groupedAt body
+  no-clause room Plain endPermitted at h = rw (literals-none s (limits .literals) room at (no-int (intAt s (limits .literals) at) h))
+  no-clause room Weighted endPermitted at h = rw (no-uint (uintAt s largest at) h)
+  no-clause room Grouped endPermitted at h = rw (no-uint (bracedUintAt s (limits .groups) at) h)
+
+-- The bytes with which a comment or a line end begins: `c`, CR and LF.
+abbrev pub OpensLine : ℕ → Type 0
+OpensLine b = (b ≡ 99) ⊎ ((b ≡ 13) ⊎ (b ≡ 10))
+
+module _ (s : List ℕ) (at : ℕ) where
+  line-bare : OpensLine (getD s at 0) → Bare s at
+  line-bare (inl h) =
+      record { number = unsigned-none (read-high (read-none s at) (standing s at 98 (eq-eqb _ _ h)) (omega arith)) refl; minus = λ e. omega arith; brace = λ e. omega arith }
+  line-bare (inr (inl h)) =
+      record { number = unsigned-none (read-low (read-none s at) (standing s at 12 (eq-eqb _ _ h)) (omega arith)) refl; minus = λ e. omega arith; brace = λ e. omega arith }
+  line-bare (inr (inr h)) =
+      record { number = unsigned-none (read-low (read-none s at) (standing s at 9 (eq-eqb _ _ h)) (omega arith)) refl; minus = λ e. omega arith; brace = λ e. omega arith }
+
+  comment-opens : unmoved at (comment s at) ≡ false → OpensLine (getD s at 0)
+  comment-opens h =
+      tested (eqb (getD s at 0) 99) (λ e. inl (eqb-true (getD s at 0) 99 e))
+      (λ e. unlike (sym (eq-eqb (comment s at) at (comment-no s at (eqb-false (getD s at 0) 99 e))) ∙ h))
+
+  newline-opens : unmoved at (newline s at) ≡ false → OpensLine (getD s at 0)
+  newline-opens h =
+      tested (eqb (getD s at 0) 13) (λ e. inr (inl (eqb-true (getD s at 0) 13 e)))
+      (λ e. tested (eqb (getD s at 0) 10) (λ g. inr (inr (eqb-true (getD s at 0) 10 g)))
+      (λ g.
+      let l = line-end-no s at (eqb-false (getD s at 0) 10 g) (λ c _. eqb-false (getD s at 0) 13 e c) in
+      unlike (sym (eq-eqb (newline s at) at (newline-no s at (lineEnd s at) refl l)) ∙ h)))
+
+-- No clause begins with one of them.
+pub no-clause-at-line : (s : List ℕ) (limits : Limits) (room : ℕ) (f : Format) (endPermitted : Bool) (at : ℕ) → OpensLine (getD s at 0)
+    → clauseAt s limits room f endPermitted at ≡ noClause s endPermitted at
+no-clause-at-line s limits room f endPermitted at o = no-clause s limits room f endPermitted at (bare-none s limits f at (line-bare s at o))
+
+module _ (s : List ℕ) (f : Format) (limits : Limits) (room count : ℕ) where
+  -- The count is not applied, or is reached.
+  abbrev pub mayEnd : Bool
+  mayEnd = eqb (limits .clauses) 0 || leb (limits .clauses) count
+
+  -- The count is not applied, or not reached.
+  abbrev pub mayGoOn : Bool
+  mayGoOn = eqb (limits .clauses) 0 || not (leb (limits .clauses) count)
+
+  -- A clause if one may come, else a comment, else a line end, else the end or refusal 9; and again after a comment or line end.
+  abbrev pub inOrder : ℕ → Step ℕ Answered
+  inOrder at =
+      cond (mayGoOn && stands s limits f at) (answer (clauseAt s limits room f mayEnd at))
+      (cond (unmoved at (comment s at)) (cond (unmoved at (newline s at)) (answer (noClause s mayEnd at)) (again (newline s at))) (again (comment s at)))
+
+  -- What is said where no comment and no line end stands.
+  abbrev tried : ℕ → Answered
+  tried at =
+      cond (eqb (limits .clauses) 0) (clauseAt s limits room f true at)
+      (cond (leb (limits .clauses) count) (noClause s true at) (clauseAt s limits room f false at))
+
+  by-count : (a b : Bool) (at : ℕ)
+      → cond ((a || not b) && stands s limits f at) (clauseAt s limits room f (a || b) at) (noClause s (a || b) at)
+      ≡ cond a (clauseAt s limits room f true at) (cond b (noClause s true at) (clauseAt s limits room f false at))
+  by-count true b at = tested (stands s limits f at) (λ h. rw h) (λ h. rw (h, no-clause s limits room f true at h))
+  by-count false true at = refl
+  by-count false false at = tested (stands s limits f at) (λ h. rw h) (λ h. rw (h, no-clause s limits room f false at h))
+
+  in-order : (over : Answered) (n at : ℕ) → length s - at < n → loop inOrder over n at ≡ tried (lines s at)
+  unfolding commentOrNewline
+  in-order over zero at h = absurd (omega arith)
+  in-order over (suc n) at h =
+      loop-after inOrder over n at
+      ∙ tested (unmoved at (comment s at))
+      (λ c. tested (unmoved at (newline s at))
+      (λ d. rw (lines-step s at, c, d) (go (mayGoOn && stands s limits f at) (clauseAt s limits room f mayEnd at) (noClause s mayEnd at) (by-count (eqb (limits .clauses) 0) (leb (limits .clauses) count) at)))
+      (λ d. rw (lines-step s at, skips (newline-opens s at d), c, d) (in-order over n (newline s at) (omega (arith, moved (newline-spans s at) d)))))
+      (λ c. rw (lines-step s at, skips (comment-opens s at c), c) (in-order over n (comment s at) (omega (arith, moved (comment-spans s at) c))))
+    where
+      skips : OpensLine (getD s at 0) → mayGoOn && stands s limits f at ≡ false
+      skips o = and-false mayGoOn (stands s limits f at) (bare-none s limits f at (line-bare s at o))
+
+      go : (t : Bool) (x y : Answered) {z : Answered} → cond t x y ≡ z → after (cond t (answer x) (answer y)) (loop inOrder over n) ≡ z
+      go true x y e = e
+      go false x y e = e
+
+  -- Whatever `over` is, the steps suffice and it is not the answer.
+  pub next-in-order : (over : Answered) (at : ℕ) → loop inOrder over (suc (length s)) (blanks s at) ≡ nextClause s f limits room count at
+  unfolding nextClause
+  next-in-order over at = in-order over (suc (length s)) (blanks s at) (omega arith)
