@@ -47,7 +47,7 @@ def texts(path):
 
 
 def main():
-    caught = missed = 0
+    caught = missed = unjudged = 0
     for wanted in sys.argv[1:] or CRATES:
         name, _, only = wanted.partition("/")
         program, shown = ("written", calls.shown) if name == "writer" else ("answers", texts)
@@ -64,7 +64,10 @@ def main():
             native = said[said.find("the native program") :]
             differs = re.search(r"on standard output, at byte (\d+)", native)
             what = edit.read_text().splitlines()[0].lstrip("# ")
-            if differs:
+            if "did not end within the time limit" in native:
+                unjudged += 1
+                print(f"{name}/{edit.stem}: {what}: NOT JUDGED, the machine is too slow for rt's time limit")
+            elif differs:
                 caught += 1
                 number = int(re.findall(rb"^case (\d+)$", expected[: int(differs[1]) + 1], re.M)[-1])
                 print(f"{name}/{edit.stem}: {what}: case {number}, {cases[number]}")
@@ -75,7 +78,7 @@ def main():
                 caught += 1
                 print(f"{name}/{edit.stem}: {what}: it does not end as it should")
             sys.stdout.flush()
-    print(f"{caught} slips caught, {missed} not seen")
+    print(f"{caught} slips caught, {missed} not seen, {unjudged} not judged")
 
 
 if __name__ == "__main__":
