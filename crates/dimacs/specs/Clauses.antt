@@ -27,7 +27,8 @@ pub data Literals : Type 0 where
   stopped : Refusal → List ℤ → Literals
 
 module _ (s : List ℕ) (limit room : ℕ) where
-  -- By a row, after so many literals: where it ends without its 0, line ends must come and then a row that adds a literal.
+  -- By a row, after so many literals. Where it ends without its 0: no literal at all is nothing; a row that added none leaves one owed after the line ends
+  -- before it; else line ends must come.
   abbrev pub onRow : ℕ → Row → Step Reading Literals
   onRow held (closes next so) = answer (closed so next)
   onRow held (stops r so) = answer (stopped r so)
@@ -85,7 +86,7 @@ module _ (s : List ℕ) where
   noClause = absent Reason.clauseExpected
 
 module _ (s : List ℕ) (limits : Limits) (room : ℕ) where
-  -- A clause from its literals on.
+  -- A clause from its literals on, or what is said where no number stands.
   unfoldable pub body : ℕ → Reason → Bool → ℕ → Answered
   body extra why endPermitted at = clauseOf s extra (absent s why endPermitted at) (literals s (limits .literals) room at)
 
