@@ -1,9 +1,9 @@
 #!/usr/bin/env python3
-"""Writes what crates/copied must print, with the crate's writers and readers in place of ours.
+"""Writes what crates/copy_cases must print, with the crate's writers and readers in place of ours.
 
 Usage: copies.py >STDOUT
 
-The formulas are those of crates/copied/src/main.rt. `oracle written` writes their lines, and `oracle` reads each text in
+The formulas are those of crates/copy_cases/src/main.rt. `oracle written` writes their lines, and `oracle` reads each text in
 both modes, with room for 1,024 literals.
 """
 

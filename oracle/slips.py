@@ -4,7 +4,7 @@
 Usage: slips.py [CRATE | CRATE/EDIT]...
 
 For each edit named, or of the code of the named crates (those of the readers and of the writer by default), a copy of the
-repository is edited, the program `answers`, or `written` for the writer, is built from it without proof and given the
+repository is edited, the program `reader_cases`, or `writer_cases` for the writer, is built from it without proof and given the
 vectors, and the first case that it answers otherwise than the oracle is printed. Edits that no case shows are printed
 as such.
 """
@@ -50,7 +50,7 @@ def main():
     caught = missed = unjudged = 0
     for wanted in sys.argv[1:] or CRATES:
         name, _, only = wanted.partition("/")
-        program, shown = ("written", calls.shown) if name == "writer" else ("answers", texts)
+        program, shown = ("writer_cases", calls.shown) if name == "writer" else ("reader_cases", texts)
         cases = list(shown(ROOT / "crates" / program / "stdin"))
         expected = (ROOT / "crates" / program / "stdout").read_bytes()
         for edit in sorted((ROOT / "crates" / name / "must-fail").glob(f"{only or '*'}.edit")):

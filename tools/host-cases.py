@@ -1,5 +1,5 @@
 #!/usr/bin/env python3
-"""Writes the cases of crates/host_cases and what they must print, from the stored answers of crates/answers and not from the code.
+"""Writes the cases of crates/host_cases and what they must print, from the stored answers of crates/reader_cases and not from the code.
 
 host-cases.py ANSWERS DIR: reads ANSWERS/stdin and ANSWERS/stdout, and writes DIR/stdin and DIR/stdout.
 

@@ -5,7 +5,7 @@ Usage: solvers.py [FORMULA...]
 
 Each solver that is installed (cadical, picosat, cryptominisat5), as it comes and made to tell more, is given the formulas named and those of examples/, as far as they are read to
 their end, pigeonholes, and random ones from a fixed seed. The formula is read by Latchtwig's plain reader and handed on with one clause to a
-line, since cryptominisat5 takes no other; what the solver prints is read by the log reader. Both are the program `answers`. Each time it is checked that
+line, since cryptominisat5 takes no other; what the solver prints is read by the log reader. Both are the program `reader_cases`. Each time it is checked that
 
 - the verdict is the one that the solver's exit status tells (10 yes, 20 no);
 - the literals are those of its `v` lines, as Python finds them;
@@ -31,9 +31,9 @@ ROOM = 4096
 
 
 def answers(*cases):
-    """What `answers` says of each (format, mode, text), line by line."""
+    """What `reader_cases` says of each (format, mode, text), line by line."""
     given = b"".join(struct.pack("<BBII", format, mode, ROOM, len(text)) + text for format, mode, text in cases)
-    said = subprocess.run([ROOT / "run", "answers"], input=given, stdout=subprocess.PIPE, check=True).stdout.decode()
+    said = subprocess.run([ROOT / "run", "reader_cases"], input=given, stdout=subprocess.PIPE, check=True).stdout.decode()
     return [case.splitlines()[1:] for case in said.split("case ")[1:]]
 
 

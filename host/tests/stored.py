@@ -1,5 +1,5 @@
 #!/usr/bin/env python3
-"""Runs every stored case of crates/answers through a caller of the host calls, and holds what it prints to the stored answer.
+"""Runs every stored case of crates/reader_cases through a caller of the host calls, and holds what it prints to the stored answer.
 
 stored.py CRATES COMMAND..: COMMAND.. takes the frames of crates/host_cases and prints number and place of each. Where the stored answer is 16, the case's own room for
 literals was too small and the calls have more: they must get further, and not answer 16.

@@ -1,5 +1,6 @@
-// Runs framed cases through the host calls. A frame is format, mode and length, of four bytes each, little-endian, and then so many bytes of text. Each is
-// answered by a line: the number of the refusal or 0, and its place or the text's length. A frame that is cut off, or whose text is too long, is the last.
+// Runs framed cases from standard input through the host calls.
+//
+// A frame is format, mode and length, of four bytes each, little-endian, and then so many bytes of text. Each is answered by a line: the number of the refusal or 0, and its place or the text's length. A frame that is cut off, or whose text is too long, is the last.
 use console::cut;
 use libc::STDIN_FILENO;
 use libc::STDOUT_FILENO;

@@ -1,4 +1,6 @@
-// Prints what each token function answers for the cases on standard input. A case is the text's length as one byte, the text, and then the place
+// Prints what each token function answers for the cases on standard input.
+//
+// A case is the text's length as one byte, the text, and then the place
 // and the limit as eight bytes each, little-endian. A line has the answers of all functions in the order below: a place as it is, a test as 0 or 1,
 // a number as `value@place`, `-` where there is none and `!` where it is too big.
 ghost use Prim.Native.Nat.{_≤_};

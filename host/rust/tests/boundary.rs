@@ -50,7 +50,7 @@ fn last_lines(transcript: &str) -> Vec<Vec<&str>> {
         .collect()
 }
 
-/// Every case of crates/answers. Where its own room ran out, the calls have more: they get further, and the buffer is not full.
+/// Every case of crates/reader_cases. Where its own room ran out, the calls have more: they get further, and the buffer is not full.
 #[test]
 fn stored_cases() {
     let (given, said) = (stored("answers/stdin"), stored("answers/stdout"));

@@ -1,0 +1,353 @@
+// Writes formulas, reads each back in both modes, and prints its text and what was read of it.
+//
+// Where that is not what was written, `differs` is printed.
+ghost use mathlib.Core.Path.{_≡_};
+ghost use Prim.Native.Nat.{_≤_};
+ghost use lib.ListN.{length};
+use clause::Next;
+use console::clause_line;
+use console::end_line;
+use console::header_line;
+use console::number;
+use console::refused_line;
+use console::word;
+use dimacs::Format;
+use dimacs::Header;
+use dimacs::LARGEST;
+use dimacs::Mode;
+use dimacs::Opening;
+use dimacs::ROOM;
+use dimacs::Refusal;
+use formula::Cursor;
+use writer::Written;
+
+// A formula but for its clauses. Those are two lists: the weights or groups, all 0 where the format has none, and the literals, a 0 after each clause.
+struct Formula {
+    format: Format,
+    headed: bool,
+    header: Header,
+}
+
+// Says so if what was read is not what was written.
+fn compared(same: bool) {
+    if same {
+        return;
+    }
+    word(b"differs\n");
+}
+
+// Nothing was written at a place.
+fn unwritten(at: usize) -> usize
+    ensures { λ r. ⌜ r ≡ at ⌝ }
+{
+    word(b"unwritten\n");
+    at
+}
+
+// The header written at a place, and the place past it.
+fn put_header(text: &mut [u8], at: usize, f: Formula) -> usize
+    requires { ⌜ at ≤ length (now text) ⌝ }
+    ensures { λ r. ⌜ r ≤ length (now (text .entry)) ⌝ }
+{
+    let format = f.format;
+    let header = f.header;
+    match writer::write_header(format, header, &mut text[at..]) {
+        Written::Line(n) => at + n,
+        Written::Refused(_) => unwritten(at),
+    }
+}
+
+// A clause written at a place, and the place past it.
+fn put_clause(text: &mut [u8], at: usize, format: Format, extra: u64, lits: &[i32]) -> usize
+    requires { ⌜ at ≤ length (now text) ⌝ }
+    ensures { λ r. ⌜ r ≤ length (now (text .entry)) ⌝ }
+{
+    match writer::write_clause(format, extra, lits, &mut text[at..]) {
+        Written::Line(n) => at + n,
+        Written::Refused(_) => unwritten(at),
+    }
+}
+
+// Where the 0 stands that ends the clause at a place.
+fn zero(given: &[i32], at: usize) -> usize
+    requires { ⌜ at ≤ length (now given) ⌝ }
+    ensures { λ r. ⌜ (at ≤ r) × (r ≤ length (now (given .entry))) ⌝ }
+{
+    let mut i = at;
+    while i < given.len() {
+        if given[i] == 0 {
+            return i;
+        }
+        i += 1;
+    }
+    i
+}
+
+// Past that 0.
+fn past(given: &[i32], end: usize) -> usize
+    requires { ⌜ end ≤ length (now given) ⌝ }
+    ensures { λ r. ⌜ r ≤ length (now (given .entry)) ⌝ }
+{
+    if end < given.len() {
+        return end + 1;
+    }
+    end
+}
+
+// The header written, if there is one, and the place past it.
+fn opening(text: &mut [u8], f: Formula) -> usize
+    ensures { λ r. ⌜ r ≤ length (now (text .entry)) ⌝ }
+{
+    if f.headed {
+        return put_header(text, 0, f);
+    }
+    0
+}
+
+// The whole formula written, and its length.
+fn written(text: &mut [u8], f: Formula, extras: &[u64], given: &[i32]) -> usize
+    ensures { λ r. ⌜ r ≤ length (now (text .entry)) ⌝ }
+{
+    let format = f.format;
+    let mut at = opening(text, f);
+    let mut from: usize = 0;
+    for k in 0..extras.len() {
+        let end = zero(given, from);
+        at = put_clause(text, at, format, extras[k], &given[from..end]);
+        from = past(given, end);
+    }
+    at
+}
+
+fn same(a: &[i32], b: &[i32]) -> bool {
+    if a.len() != b.len() {
+        return false;
+    }
+    for i in 0..a.len() {
+        if a[i] != b[i] {
+            return false;
+        }
+    }
+    true
+}
+
+fn header_read(f: Formula, read: Header) {
+    let format = f.format;
+    let h = f.header;
+    header_line(read, format);
+    compared(
+        f.headed
+            && read.variables == h.variables
+            && read.clauses == h.clauses
+            && read.third == h.third,
+    );
+}
+
+fn opening_read(f: Formula, read: Opening) {
+    match read {
+        Opening::Header(header, _) => header_read(f, header),
+        Opening::NoHeader(_) => {
+            word(b"header none\n");
+            compared(!f.headed);
+        }
+        Opening::Refused(_) => {}
+    }
+}
+
+// A clause that was read. It must be due, and its literals these.
+fn clause_read(format: Format, extra: u64, lits: &[i32], due: bool, given: &[i32]) {
+    clause_line(format, extra, lits);
+    compared(due && same(lits, given));
+}
+
+fn end_read(due: bool) {
+    end_line();
+    compared(due);
+}
+
+// A refusal, which is never due.
+fn refused_read(r: Refusal) {
+    refused_line(r);
+    compared(false);
+}
+
+// The next answer of the reader. It must be this clause, or the end where no clause is due.
+fn next_read(
+    text: &[u8],
+    cursor: Cursor,
+    lits: &mut [i32],
+    due: bool,
+    extra: u64,
+    given: &[i32],
+) -> Cursor {
+    let format = cursor.format;
+    let step = cursor.next_clause(text, lits);
+    let answer = step.answer;
+    match answer {
+        Next::Clause { extra: read, count } => clause_read(
+            format,
+            read,
+            &lits[..count],
+            due && read == extra,
+            given,
+        ),
+        Next::Ended => end_read(!due),
+        Next::Refused { refusal, count: _ } => refused_read(refusal),
+    }
+    step.cursor
+}
+
+fn clauses_read(text: &[u8], first: Cursor, lits: &mut [i32], extras: &[u64], given: &[i32]) {
+    let mut cursor = first;
+    let mut from: usize = 0;
+    for k in 0..extras.len() {
+        let end = zero(given, from);
+        cursor = next_read(text, cursor, lits, true, extras[k], &given[from..end]);
+        from = past(given, end);
+    }
+    next_read(text, cursor, lits, false, 0, given);
+}
+
+// The text read in a mode, with the room of a caller that lends no buffer.
+fn read_back(text: &[u8], f: Formula, mode: Mode, extras: &[u64], given: &[i32]) {
+    let format = f.format;
+    let opened = formula::open_as(text, format, mode);
+    let opening = opened.opening;
+    let cursor = opened.cursor;
+    opening_read(f, opening);
+    let mut lits = [0i32; ROOM];
+    clauses_read(text, cursor, &mut lits, extras, given);
+}
+
+fn name(format: Format) {
+    match format {
+        Format::Plain => word(b"plain"),
+        Format::Weighted => word(b"weighted"),
+        Format::Grouped => word(b"grouped"),
+    }
+}
+
+fn both(text: &[u8], f: Formula, extras: &[u64], given: &[i32]) {
+    let format = f.format;
+    name(format);
+    number(text.len() as u64);
+    word(b" bytes\n");
+    word(text);
+    word(b"strict\n");
+    read_back(text, f, Mode::Strict, extras, given);
+    word(b"lenient\n");
+    read_back(text, f, Mode::Lenient, extras, given);
+}
+
+fn copied(f: Formula, extras: &[u64], given: &[i32]) {
+    let mut text = io::large_buffer();
+    let n = written(&mut text, f, extras, given);
+    both(&text[..n], f, extras, given);
+}
+
+fn bare(format: Format) -> Formula {
+    let header = Header {
+        variables: 0,
+        clauses: 0,
+        third: 0,
+    };
+    Formula {
+        format,
+        headed: false,
+        header,
+    }
+}
+
+fn headed(format: Format, variables: u64, clauses: u64, third: u64) -> Formula {
+    let header = Header {
+        variables,
+        clauses,
+        third,
+    };
+    Formula {
+        format,
+        headed: true,
+        header,
+    }
+}
+
+fn plain() {
+    copied(headed(Format::Plain, 3, 2, 0), &[0, 0], &[1, -3, 0, -2, 0]);
+    copied(
+        headed(Format::Plain, 2147483647, 0, 0),
+        &[0, 0],
+        &[2147483647, -2147483647, 0, 0],
+    );
+    copied(headed(Format::Plain, 0, 1, 0), &[0], &[9, -10, 99, -100, 0]);
+    copied(
+        bare(Format::Plain),
+        &[0, 0],
+        &[0, -2147483647, 2147483647, 0],
+    );
+}
+
+fn weighted() {
+    copied(
+        headed(Format::Weighted, 100, 5, LARGEST),
+        &[0, 9, 10, 99, 100],
+        &[1, 0, -9, 0, 10, -99, 0, 100, 0, 0],
+    );
+    copied(
+        headed(Format::Weighted, 0, 0, 0),
+        &[2147483647],
+        &[2147483647, 0],
+    );
+    copied(
+        bare(Format::Weighted),
+        &[9223372036854775808, LARGEST, 0],
+        &[-2147483647, 0, 0, 1, 0],
+    );
+}
+
+fn grouped() {
+    copied(
+        headed(Format::Grouped, 9, 3, 10),
+        &[0, 9, 10],
+        &[1, -9, 0, 0, 2, 0],
+    );
+    copied(
+        headed(Format::Grouped, 0, 0, LARGEST),
+        &[LARGEST, 9223372036854775808],
+        &[-2147483647, 0, 0],
+    );
+    copied(
+        bare(Format::Grouped),
+        &[LARGEST, 99, 100],
+        &[0, 2147483647, 0, -1, 0],
+    );
+}
+
+// No line at all, and a header alone.
+fn empty(format: Format) {
+    let none = [0u64; 0];
+    let given = [0i32; 0];
+    copied(bare(format), &none, &given);
+    copied(headed(format, 0, 0, 0), &none, &given);
+}
+
+// A clause that takes all the room.
+fn long(f: Formula, extra: u64) {
+    let mut given = [0i32; ROOM + 1];
+    for i in 0..ROOM {
+        given[i] = (i + 1) as i32;
+    }
+    given[ROOM - 1] = -1024;
+    copied(f, &[extra], &given);
+}
+
+fn main() {
+    plain();
+    weighted();
+    grouped();
+    empty(Format::Plain);
+    empty(Format::Weighted);
+    empty(Format::Grouped);
+    long(headed(Format::Plain, 1024, 1, 0), 0);
+    long(headed(Format::Weighted, 1024, 1, LARGEST), LARGEST);
+    long(headed(Format::Grouped, 1024, 1, LARGEST), LARGEST);
+}

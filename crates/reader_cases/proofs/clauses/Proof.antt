@@ -1,0 +1,87 @@
+-- `reader_cases::clauses` ends, since each clause leaves fewer to come, and lends no more of the buffer than it has. Assumes nothing.
+use mathlib.Core.Path.{_≡_, refl, sym, _∙_}
+use lib.ListN.{length}
+use lib.Seq.{length-take-le}
+use Rattle.dimacs.proofs.Clauses.{toCome}
+use Rattle.formula.proofs.Runs.{steps-lead, steps-fit}
+use borrow.Author.Needs.{needs}
+use native.Mathlib.Omega.{arith}
+use Rattle.reader_cases.proofs.clauses.Statement.{statement}
+use Rattle.reader_cases.proofs.clauses.Tie as tie
+
+abbrev Inv-loop : tie.InvT-loop
+Inv-loop text lits₀ cursor₀ format lits cursor = length lits ≡ length lits₀
+
+abbrev μ-loop : tie.MeasureT-loop
+μ-loop text lits₀ cursor₀ format lits cursor = toCome text (cursor .place)
+
+loop-holds : tie.Need-loop-holds Inv-loop μ-loop
+loop-holds c = search needs
+
+next-clause-requires : tie.Need-next-clause-requires Inv-loop μ-loop
+next-clause-requires c κs = search needs
+
+enum-known-answer : tie.Need-enum-known-answer Inv-loop μ-loop
+enum-known-answer c = search needs
+
+slice-reshare-prefix-clause-line : tie.Need-slice-reshare-prefix-clause-line Inv-loop μ-loop
+slice-reshare-prefix-clause-line c = omega (arith, steps-fit _ _ _ _ _ (c .before .before .before .before .before .next-clause .ensures) (c .before .answer .given .1), c .before .before .before .before .before .next-clause .kept .1 .1 .0)
+
+slice-aggregate-clause-line : tie.Need-slice-aggregate-clause-line Inv-loop μ-loop
+slice-aggregate-clause-line c = sym (length-take-le _ _ (omega (arith, steps-fit _ _ _ _ _ (c .before .before .before .before .before .before .next-clause .ensures) (c .before .before .answer .given .1), c .before .before .before .before .before .before .next-clause .kept .1 .1 .0)))
+
+clause-line-requires : tie.Need-clause-line-requires Inv-loop μ-loop
+clause-line-requires c κs = search needs
+
+loop-less : tie.Need-loop-less Inv-loop μ-loop
+loop-less c = steps-lead _ _ _ _ _ _ refl (c .before .before .before .before .before .before .before .next-clause .ensures) (c .before .before .before .answer .given .1) .1
+
+loop-again : tie.Need-loop-again Inv-loop μ-loop
+loop-again c = c .before .before .before .before .before .before .before .next-clause .kept .1 .1 .0 ∙ c .before .before .before .before .before .before .before .before .before .loop .inv
+
+enum-told : tie.Need-enum-told Inv-loop μ-loop
+enum-told c = search needs
+
+end-line-requires : tie.Need-end-line-requires Inv-loop μ-loop
+end-line-requires c κs = search needs
+
+same-length : tie.Need-same-length Inv-loop μ-loop
+same-length c = search needs
+
+returns : tie.Need-returns Inv-loop μ-loop
+returns c = search needs
+
+enum-known-answer-2 : tie.Need-enum-known-answer-2 Inv-loop μ-loop
+enum-known-answer-2 c = search needs
+
+refused-line-requires : tie.Need-refused-line-requires Inv-loop μ-loop
+refused-line-requires c κs = search needs
+
+same-length-2 : tie.Need-same-length-2 Inv-loop μ-loop
+same-length-2 c = search needs
+
+returns-2 : tie.Need-returns-2 Inv-loop μ-loop
+returns-2 c = search needs
+
+pub clauses-spec : {M : Type 1} → statement M
+clauses-spec =
+    tie.close
+    (tie.spec
+    Inv-loop
+    μ-loop
+    loop-holds
+    next-clause-requires
+    enum-known-answer
+    slice-reshare-prefix-clause-line
+    slice-aggregate-clause-line
+    clause-line-requires
+    loop-less
+    loop-again
+    enum-told
+    end-line-requires
+    same-length
+    returns
+    enum-known-answer-2
+    refused-line-requires
+    same-length-2
+    returns-2)
