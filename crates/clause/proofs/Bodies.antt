@@ -7,6 +7,7 @@ use lib.ListN.{length}
 use lib.IntN.{ℤ}
 use Rattle.dimacs.specs.Names.{Reason}
 use Rattle.dimacs.specs.Tokens.{atEnd, endOfLine}
+use Rattle.dimacs.specs.Buffers.{laid}
 use Rattle.dimacs.specs.Clauses as def
 use Rattle.dimacs.specs.declared.Limits.{Limits}
 use Rattle.dimacs.specs.declared.EndOfLine.the-variants as end
@@ -39,7 +40,7 @@ module _ (s : List ℕ) (limits : Limits) (extra at : ℕ) (old new : List ℤ) 
   unfolding def.body
   body-leads h e = subst Leads (sym (h .answer) ∙ e) (go (def.literals s (limits .literals) (length old) at) refl (h .buffer))
     where
-      go : (x : def.Literals) → def.literals s (limits .literals) (length old) at ≡ x → new ≡ def.laid (readOf x) old → Leads (literalsOf x)
+      go : (x : def.Literals) → def.literals s (limits .literals) (length old) at ≡ x → new ≡ laid (readOf x) old → Leads (literalsOf x)
       go def.nothing e b = λ r is. rw e (record { answer = is; buffer = rw (absent-unread s why permitted at) b })
       go (def.closed so p) e b = (λ r k is. rw (e, k) (record { answer = is; buffer = b }), λ q k. rw (e, k) (record { answer = refl; buffer = b }))
       go (def.stopped x so) e b = rw e (record { answer = refl; buffer = b })

@@ -10,7 +10,8 @@ use Rattle.dimacs.specs.Names.{Reason, refusal}
 use Rattle.dimacs.specs.Tokens.{linebreaks}
 use Rattle.dimacs.specs.Rows as def
 use Rattle.dimacs.specs.Rows.{reads, row, readBy}
-use Rattle.dimacs.specs.Clauses.{laid, nothing, closed, stopped, literalsFrom, literals}
+use Rattle.dimacs.specs.Buffers.{laid}
+use Rattle.dimacs.specs.Clauses.{nothing, closed, stopped, literalsFrom, literals}
 use Rattle.dimacs.specs.declared.Refusal.{Refusal}
 use Rattle.dimacs.proofs.Spans.{Spans, linebreaks-spans}
 use Rattle.dimacs.proofs.Rows.{RowSpans, row-spans, Grown, row-grows}

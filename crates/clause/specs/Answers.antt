@@ -5,6 +5,7 @@ use mathlib.Core.Path.{_≡_}
 use lib.ListN.{length}
 use lib.IntN.{ℤ}
 use Rattle.dimacs.specs.Names.{numbered}
+use Rattle.dimacs.specs.Buffers.{laid}
 use Rattle.dimacs.specs.Clauses as def
 use Rattle.clause.specs.declared.Literals.{Literals}
 use Rattle.clause.specs.declared.Literals.the-variants.{Nothing, Closed, Stopped}
@@ -27,7 +28,7 @@ readOf (def.stopped r so) = so
 -- Reading literals: the answer, and the buffer after it.
 pub record Reads (s : List ℕ) (limit at : ℕ) (old new : List ℤ) (r : Literals) : Type 0 where
   pub answer : r ≡ literalsOf (def.literals s limit (length old) at)
-  pub buffer : new ≡ def.laid (readOf (def.literals s limit (length old) at)) old
+  pub buffer : new ≡ laid (readOf (def.literals s limit (length old) at)) old
 
 -- A clause is told by its weight or group and its count of literals, a refusal by its number and place and the count of literals before it.
 abbrev pub nextOf : def.Answer → Next
@@ -52,4 +53,4 @@ refusedOf s number at count = record { answer = next.Refused (numbered s number 
 -- An answer of the definition is given: the answer, and the buffer after it.
 pub record Answers (d : def.Answered) (old new : List ℤ) (r : Answered) : Type 0 where
   pub answer : r ≡ answeredOf d
-  pub buffer : new ≡ def.laid (leftBy (d .answer)) old
+  pub buffer : new ≡ laid (leftBy (d .answer)) old

@@ -6,7 +6,7 @@ use native.Mathlib.Omega.{arith}
 use lib.ListN.{length, take, drop, set, length-set, length-append, length-drop, take-append-drop}
 use lib.Seq.{length-take-le, drop-set-lt, drop-drop, drop-at, take-at}
 use lib.IntN.{ℤ}
-use Rattle.dimacs.specs.Clauses.{laid}
+use Rattle.dimacs.specs.Buffers.{laid}
 
 pub record Kept (old lits : List ℤ) (count : ℕ) : Type 0 where
   pub fits : count ≤ length lits

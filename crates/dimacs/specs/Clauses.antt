@@ -1,8 +1,8 @@
 -- A clause of each format.
 use Prim.Native.Nat.{ℕ, suc}
 use mathlib.Core.Bool.{Bool, false, cond, _&&_}
-use mathlib.Core.List.{List, [], _++_}
-use lib.ListN.{length, drop}
+use mathlib.Core.List.{List, []}
+use lib.ListN.{length}
 use lib.Dec.{eqb}
 use lib.IntN.{ℤ}
 use Rattle.dimacs.specs.Loop.{Step, again, answer, loop}
@@ -15,10 +15,6 @@ use Rattle.dimacs.specs.declared.Format.the-variants.{Plain, Weighted, G
 use Rattle.dimacs.specs.declared.Refusal.{Refusal}
 use Rattle.dimacs.specs.declared.Uint.{Uint}
 use Rattle.dimacs.specs.declared.Uint.the-variants as uint
-
--- What a lent buffer holds after something is laid into it: that, then its old contents.
-abbrev pub laid : {A : Type 0} → List A → List A → List A
-laid so old = so ++ drop (length so) old
 
 -- What a list of literals comes to: no number stands at its place; they close, at the place past the 0; or a refusal, with the literals before it.
 pub data Literals : Type 0 where

@@ -1,6 +1,7 @@
 -- The written definition of the formats, in the order of document 01. Each file's first line says what it holds. The modules `specs.declared.X` that they name
 -- stand in no file here: each is made from the type X in src/lib.rt.
 pub mod Loop
+pub mod Buffers
 pub mod Bytes
 pub mod Names
 pub mod Tokens

@@ -8,6 +8,8 @@ use Rattle.dimacs.specs.declared.Format.{Format}
 use Rattle.dimacs.specs.declared.Format.the-variants.{Plain, Weighted, Grouped}
 use Rattle.dimacs.specs.declared.Mode.{Mode}
 use Rattle.dimacs.specs.declared.Mode.the-variants.{Strict, Lenient}
+use Rattle.dimacs.specs.declared.Kind.{Kind}
+use Rattle.dimacs.specs.declared.Kind.the-variants.{Unknown, Clauses, Log}
 use Rattle.dimacs.specs.declared.Refusal.{Refusal}
 
 -- The largest variable, and the largest literal either way.
@@ -33,6 +35,16 @@ logFormat = 3
 -- The places of a tray.
 abbrev pub places : ℕ
 places = 32
+
+-- What the number of a format names in a mode.
+unfoldable pub kindIn : Mode → ℕ → Kind
+kindIn m f =
+    cond (eqb f 0) (Clauses Plain m)
+    (cond (eqb f 1) (Clauses Weighted m) (cond (eqb f 2) (Clauses Grouped m) (cond (eqb f logFormat) (Log m) Unknown)))
+
+-- What the numbers of a format and a mode name.
+unfoldable pub kindOf : ℕ → ℕ → Kind
+kindOf f m = cond (eqb m 0) (kindIn Strict f) (cond (eqb m 1) (kindIn Lenient f) Unknown)
 
 -- The format of clauses that a number names.
 abbrev pub formatOf : ℕ → Option Format
@@ -89,6 +101,10 @@ numbered s number at = record { number = number; place = at }
 abbrev pub refusal : List ℕ → Reason → ℕ → Refusal
 refusal s why at = numbered s (numberOf why) at
 
--- A refusal where no text is at fault.
+-- A refusal by its number where no text is at fault, at the index of the literal at fault, or at 0.
+abbrev pub callNumbered : ℕ → ℕ → Refusal
+callNumbered number index = record { number = number; place = index }
+
+-- Such a refusal for a reason.
 abbrev pub callRefusal : Reason → ℕ → Refusal
-callRefusal why at = record { number = numberOf why; place = at }
+callRefusal why index = callNumbered (numberOf why) index

@@ -2,7 +2,7 @@
 // The written definition in specs/ is over these same types, so that a contract equates an answer with a definition.
 ghost use mathlib.Core.Path.{_≡_};
 ghost use lib.IntN.{natAbs};
-ghost use Rattle.dimacs.specs.Names.{numbered};
+ghost use Rattle.dimacs.specs.Names.{kindIn, kindOf, numbered, callNumbered};
 
 // The largest variable, and the largest literal either way.
 pub const CEILING: u32 = 2147483647;
@@ -33,6 +33,36 @@ pub const LOG_FORMAT: u8 = 3;
 pub enum Mode {
     Strict,
     Lenient,
+}
+
+// What the numbers of a format and a mode name: nothing, a text of clauses, or a log.
+pub enum Kind {
+    Unknown,
+    Clauses(Format, Mode),
+    Log(Mode),
+}
+
+fn kind_in(format: u8, mode: Mode) -> Kind
+    ensures { λ r. ⌜ r ≡ kindIn mode format ⌝ }
+{
+    match format {
+        0 => Kind::Clauses(Format::Plain, mode),
+        1 => Kind::Clauses(Format::Weighted, mode),
+        2 => Kind::Clauses(Format::Grouped, mode),
+        LOG_FORMAT => Kind::Log(mode),
+        _ => Kind::Unknown,
+    }
+}
+
+// What the numbers of a format and a mode name. Every call that takes such numbers asks here.
+pub fn kind_of(format: u8, mode: u8) -> Kind
+    ensures { λ r. ⌜ r ≡ kindOf format mode ⌝ }
+{
+    match mode {
+        0 => kind_in(format, Mode::Strict),
+        1 => kind_in(format, Mode::Lenient),
+        _ => Kind::Unknown,
+    }
 }
 
 // Refusals by number. Their meanings stand beside the same names in specs/Names.
@@ -103,6 +133,16 @@ pub fn refuse(text: &[u8], number: u8, place: usize) -> Refusal
     ensures { λ r. ⌜ r ≡ numbered (now (text .entry)) number place ⌝ }
 {
     Refusal { number, place }
+}
+
+// The refusal of a call, where no text is at fault, at the index of the literal at fault, or at 0. Every such refusal is made here.
+pub fn refuse_call(number: u8, index: usize) -> Refusal
+    ensures { λ r. ⌜ r ≡ callNumbered number index ⌝ }
+{
+    Refusal {
+        number,
+        place: index,
+    }
 }
 
 // The size of a literal.

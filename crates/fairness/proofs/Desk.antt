@@ -10,6 +10,7 @@ use lib.ListN.{length, set}
 use lib.Dec.{leb, ltb, eqb}
 use lib.IntN.{ℤ}
 use Rattle.dimacs.specs.Names.{Reason, numberOf, formatOf, modeOf, largest, ownRoom, places}
+use Rattle.dimacs.specs.Buffers.{laid}
 use Rattle.dimacs.specs.Clauses as def
 use Rattle.dimacs.proofs.Tests.{tested}
 use Rattle.dimacs.proofs.Buffer as buffer
@@ -90,7 +91,7 @@ module _ (t : Tray) (l : length (t .jobs) ≡ places) where
   put-is p (named.Begins s) = tested (within (p .start) (p .length) (p .lent)) (λ w. rw w (entered-is (p .start) (p .length) s)) (λ w. rw w)
 
 -- What a caller reads in an answer and the buffer after it is what was said.
-read-back : (r : Reply) (old : List ℤ) → replyIn (def.laid (literalsIn r) old) (saidOf r) ≡ r
+read-back : (r : Reply) (old : List ℤ) → replyIn (laid (literalsIn r) old) (saidOf r) ≡ r
 read-back (opening o) old = refl
 read-back (answering (def.clause extra so)) old = ap (λ l. answering (def.clause extra l)) (buffer.front so old)
 read-back (answering def.ended) old = refl
@@ -101,7 +102,7 @@ module _ (t : Tray) (l : length (t .jobs) ≡ places) where
   turnViewed new d = does (turnSays new (d .answer)) (view (d .tray))
 
   went-is : (n : ℕ) → held t ≡ suc n → (a : Reply) (g : Goes) (old : List ℤ)
-      → turnViewed (def.laid (literalsIn a) old) (went t (record { said = saidOf a; goes = g }))
+      → turnViewed (laid (literalsIn a) old) (went t (record { said = saidOf a; goes = g }))
       ≡ rota.went desk (t .given) (ring.ring (t .jobs) (t .head + 1) n) (front t .ticket) a (goesBy (front t) g)
   went-is n f a Over old =
       let m : min (held t - 1) places ≡ n = omega arith in

@@ -7,6 +7,7 @@ use lib.ListN.{length}
 use lib.IntN.{ℤ}
 use Rattle.dimacs.specs.Names.{Reason, callRefusal, formatOf, modeOf}
 use Rattle.dimacs.specs.Header.{openingOf, unlimited, limitsOf}
+use Rattle.dimacs.specs.Buffers.{laid}
 use Rattle.dimacs.specs.Clauses as def
 use Rattle.dimacs.specs.Texts as texts
 use Rattle.dimacs.specs.declared.Format.{Format}
@@ -89,4 +90,4 @@ stepOf s room c = settledAs c (answeredOf (answerFrom s room c))
 -- A call's whole promise. The room is the buffer's length.
 pub record Steps (s : List ℕ) (c : Cursor) (old new : List ℤ) (r : Stepped) : Type 0 where
   pub answer : r ≡ stepOf s (length old) c
-  pub buffer : new ≡ def.laid (leftBy (answerFrom s (length old) c .answer)) old
+  pub buffer : new ≡ laid (leftBy (answerFrom s (length old) c .answer)) old

@@ -15,7 +15,7 @@ use Rattle.dimacs.specs.declared.Assignment.{Assignment}
 use Rattle.dimacs.specs.declared.Assignment.the-variants.{Begun, Closed}
 use Rattle.dimacs.specs.declared.EndOfLine.{EndOfLine}
 use Rattle.dimacs.specs.declared.EndOfLine.the-variants as end
-use Rattle.dimacs.specs.Clauses.{laid}
+use Rattle.dimacs.specs.Buffers.{laid}
 use Rattle.rows.specs.Answers.{rowOf, Reads}
 use Rattle.rows.specs.declared.Row.{Row}
 use Rattle.rows.specs.declared.Row.the-variants.{Ends, Closes, Stops}

@@ -7,7 +7,7 @@ use lib.IntN.{ℤ}
 use Rattle.dimacs.specs.Loop.{Step, again, answer}
 use Rattle.dimacs.specs.Names.{numbered}
 use Rattle.dimacs.specs.Logs as def
-use Rattle.dimacs.specs.Clauses.{laid}
+use Rattle.dimacs.specs.Buffers.{laid}
 use Rattle.log_line.specs.declared.Log.the-variants.{Refused}
 use Rattle.log_line.specs.declared.Reading.{Reading}
 use Rattle.log_line.specs.declared.Line.{Line}

@@ -5,7 +5,7 @@ use mathlib.Core.Path.{_≡_}
 use lib.ListN.{length}
 use lib.IntN.{ℤ}
 use denote.Ref.{RefT, now}
-use Rattle.dimacs.specs.Clauses.{laid}
+use Rattle.dimacs.specs.Buffers.{laid}
 use Rattle.clause.specs.Answers.{leftBy}
 use Rattle.clause.specs.declared.Next.{Next}
 use Rattle.formula.specs.Cursors.{opened, answerFrom, stepOf, Steps}

@@ -4,7 +4,7 @@ use mathlib.Core.Path.{_≡_}
 use lib.ListN.{length}
 use lib.IntN.{ℤ}
 use Rattle.dimacs.specs.Rows as def
-use Rattle.dimacs.specs.Clauses.{laid}
+use Rattle.dimacs.specs.Buffers.{laid}
 use Rattle.rows.specs.declared.Row.{Row}
 use Rattle.rows.specs.declared.Row.the-variants.{Ends, Closes, Stops}
 

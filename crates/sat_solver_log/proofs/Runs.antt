@@ -12,7 +12,7 @@ use Rattle.dimacs.specs.declared.Solution.the-variants.{Unsaid}
 use Rattle.dimacs.specs.declared.Assignment.the-variants.{Unbegun}
 use Rattle.dimacs.proofs.Loops.{after}
 use Rattle.dimacs.proofs.Logs.{LineLeads, log-line-leads, log-step}
-use Rattle.dimacs.specs.Clauses.{laid}
+use Rattle.dimacs.specs.Buffers.{laid}
 use Rattle.dimacs.proofs.Buffer.{Kept, unchanged, counted, beyond, adds, front}
 use Rattle.log_line.specs.Answers.{logOf, leftBy}
 use Rattle.log_line.specs.Lines.{stateOf, readingOf, lineOf, lineLeaves, Goes}

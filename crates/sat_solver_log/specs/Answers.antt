@@ -7,7 +7,7 @@ use lib.IntN.{ℤ}
 use Rattle.dimacs.specs.Names.{Reason, callRefusal}
 use Rattle.dimacs.specs.Logs as def
 use Rattle.dimacs.specs.declared.Mode.{Mode}
-use Rattle.dimacs.specs.Clauses.{laid}
+use Rattle.dimacs.specs.Buffers.{laid}
 use Rattle.log_line.specs.Answers.{logOf, leftBy}
 use Rattle.log_line.specs.declared.Log.{Log}
 

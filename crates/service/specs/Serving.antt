@@ -7,7 +7,8 @@ use lib.ListN.{length, take, drop}
 use lib.Dec.{leb}
 use lib.IntN.{ℤ}
 use Rattle.dimacs.specs.Names.{Reason, callRefusal}
-use Rattle.dimacs.specs.Clauses.{Answer, refused, laid}
+use Rattle.dimacs.specs.Buffers.{laid}
+use Rattle.dimacs.specs.Clauses.{Answer, refused}
 use Rattle.dimacs.specs.declared.Opening.{Opening}
 use Rattle.dimacs.specs.declared.Opening.the-variants as how
 use Rattle.clause.specs.Answers.{nextOf, leftBy}

@@ -8,6 +8,7 @@ use lib.ListN.{length, take, drop, take-append-drop}
 use lib.Seq.{length-take-le, drop-append-le}
 use lib.IntN.{ℤ}
 use Rattle.dimacs.specs.Names.{Reason, ownRoom}
+use Rattle.dimacs.specs.Buffers.{laid}
 use Rattle.dimacs.specs.Clauses as def
 use Rattle.service.specs.declared.Served.{Served}
 use Rattle.service.specs.Serving.{literalsIn, servedPart, Serves}
@@ -21,7 +22,7 @@ pub one-turn : {t : Tray} {area : List ℕ} {old n₁ n₂ : List ℤ} {r₁ r�
 one-turn p q = (p .done ∙ sym (q .done), p .buffer ∙ sym (q .buffer))
 
 -- Literals laid in the first places of a buffer are laid in the buffer.
-laid-front : (n : ℕ) (so old : List ℤ) → length so ≤ n → n ≤ length old → def.laid so (take n old) ++ drop n old ≡ def.laid so old
+laid-front : (n : ℕ) (so old : List ℤ) → length so ≤ n → n ≤ length old → laid so (take n old) ++ drop n old ≡ laid so old
 laid-front n so old h k =
     append-assoc so (drop (length so) (take n old)) (drop n old)
     ∙ ap (λ l. so ++ l)

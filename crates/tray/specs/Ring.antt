@@ -8,7 +8,7 @@ use lib.ListN.{length, getD, set, replicate}
 use lib.Dec.{leb, ltb, eqb}
 use lib.IntN.{ℤ}
 use Rattle.dimacs.specs.Names.{Reason, numberOf, formatOf, modeOf, largest, ownRoom, places}
-use Rattle.dimacs.specs.Clauses.{laid}
+use Rattle.dimacs.specs.Buffers.{laid}
 use Rattle.dimacs.specs.declared.Format.{Format}
 use Rattle.dimacs.specs.declared.Format.the-variants.{Plain}
 use Rattle.dimacs.specs.declared.Mode.{Mode}
