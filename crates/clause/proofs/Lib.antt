@@ -1,3 +1,3 @@
 -- Laws about the buffer and the answers, which several proofs cite.
-pub mod Buffer
-pub mod Bodies
+pub mod RowByRow
+pub mod Finishes

@@ -4,7 +4,6 @@ use mathlib.Core.List.{List, []}
 use mathlib.Core.Path.{_≡_}
 use lib.ListN.{length}
 use lib.IntN.{ℤ}
-use Rattle.dimacs.specs.Names.{numbered}
 use Rattle.dimacs.specs.Buffers.{laid}
 use Rattle.dimacs.specs.Clauses as def
 use Rattle.clause.specs.declared.Literals.{Literals}
@@ -26,7 +25,7 @@ readOf (def.closed so at) = so
 readOf (def.stopped r so) = so
 
 -- Reading literals: the answer, and the buffer after it.
-pub record Reads (s : List ℕ) (limit at : ℕ) (old new : List ℤ) (r : Literals) : Type 0 where
+pub record ReadsLiterals (s : List ℕ) (limit at : ℕ) (old new : List ℤ) (r : Literals) : Type 0 where
   pub answer : r ≡ literalsOf (def.literals s limit (length old) at)
   pub buffer : new ≡ laid (readOf (def.literals s limit (length old) at)) old
 
@@ -45,10 +44,6 @@ leftBy (def.refused r so) = so
 -- An answer and its place.
 abbrev pub answeredOf : def.Answered → Answered
 answeredOf d = record { answer = nextOf (d .answer); place = d .place }
-
--- A refusal by its number, with so many literals before it.
-abbrev pub refusedOf : List ℕ → ℕ → ℕ → ℕ → Answered
-refusedOf s number at count = record { answer = next.Refused (numbered s number at) count; place = at }
 
 -- An answer of the definition is given: the answer, and the buffer after it.
 pub record Answers (d : def.Answered) (old new : List ℤ) (r : Answered) : Type 0 where

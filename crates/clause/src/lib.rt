@@ -1,13 +1,16 @@
-// A clause of each format, read into a lent buffer of literals.
+// A clause of each format, read into a lent buffer of literals: how it begins, its literals, and how it ends.
 ghost use mathlib.Core.Path.{_≡_};
 ghost use lib.ListN.{length};
-ghost use Rattle.dimacs.specs.Names.{Reason, numberOf};
-ghost use Rattle.dimacs.specs.Clauses.{absent, noClause, body, owed, plainAt, weightedAt, groupedAt, clauseAt};
-ghost use Rattle.clause.specs.Answers.{answeredOf, refusedOf, Reads, Answers};
+ghost use Rattle.dimacs.specs.Clauses.{instead, absent, startBy, startAt, closing, clauseAt};
+ghost use Rattle.dimacs.specs.declared.Absence.{Absence};
+ghost use Rattle.rows.specs.Answers.{Counted};
+ghost use Rattle.clause.specs.Answers.{answeredOf, ReadsLiterals, Answers};
+use dimacs::Absence;
 use dimacs::CLAUSE_EXPECTED;
 use dimacs::EndOfLine;
 use dimacs::Format;
 use dimacs::GROUP_TOO_BIG;
+use dimacs::Instead;
 use dimacs::LARGEST;
 use dimacs::LINE_END_EXPECTED;
 use dimacs::LITERAL_EXPECTED;
@@ -15,6 +18,7 @@ use dimacs::LITERAL_EXPECTED_AFTER_LINES;
 use dimacs::LITERALS_EXPECTED;
 use dimacs::Limits;
 use dimacs::Refusal;
+use dimacs::Start;
 use dimacs::Uint;
 use dimacs::WEIGHT_TOO_BIG;
 use dimacs::refuse;
@@ -45,7 +49,7 @@ pub struct Answered {
 
 // The literals from a place on, up to the 0.
 fn clause_lits(text: &[u8], at: usize, limit: u32, lits: &mut [i32]) -> Literals
-    ensures { λ r. ⌜ Reads (now (text .entry)) limit at (now (lits .entry)) (now (lits .exit)) r ⌝ }
+    ensures { λ r. ⌜ ReadsLiterals (now (text .entry)) limit at (now (lits .entry)) (now (lits .exit)) r ⌝ }
 {
     let mut from = at;
     let mut held: usize = 0;
@@ -81,104 +85,97 @@ fn clause_lits(text: &[u8], at: usize, limit: u32, lits: &mut [i32]) -> Literals
     }
 }
 
-// A refusal as an answer.
-fn refused(text: &[u8], number: u8, place: usize, count: usize) -> Answered
-    ensures { λ r. ⌜ r ≡ refusedOf (now (text .entry)) number place count ⌝ }
+// What is answered where no clause stands, with no literals.
+fn instead(i: Instead) -> Answered
+    ensures { λ r. ⌜ r ≡ answeredOf (instead i) ⌝ }
 {
-    Answered {
-        answer: Next::Refused {
-            refusal: refuse(text, number, place),
-            count,
-        },
-        place,
-    }
-}
-
-// Where no number stands: the end of the text if it is permitted, else a refusal by its number.
-fn absent(text: &[u8], number: u8, at: usize, permitted: bool) -> Answered
-    ensures { λ r. ⌜ ((why : Reason) → number ≡ numberOf why → r ≡ answeredOf (absent (now (text .entry)) why permitted at)) ⌝ }
-{
-    if permitted && token::eof(text, at) {
-        return Answered {
+    match i {
+        Instead::Ended(place) => Answered {
             answer: Next::Ended,
-            place: at,
-        };
-    }
-    refused(text, number, at, 0)
-}
-
-// The literals of a clause with its 0, and what closes its line; or what is said where no number stands.
-fn clause_body(
-    text: &[u8],
-    at: usize,
-    limits: Limits,
-    extra: u64,
-    number: u8,
-    permitted: bool,
-    lits: &mut [i32],
-) -> Answered
-    ensures { λ r. ⌜ ((why : Reason) → number ≡ numberOf why → Answers (body (now (text .entry)) limits (length (now (lits .entry))) extra why permitted at) (now (lits .entry)) (now (lits .exit)) r) ⌝ }
-{
-    match clause_lits(text, at, limits.literals, lits) {
-        Literals::Nothing => absent(text, number, at, permitted),
-        Literals::Closed { count, next } => match token::interactive_end_of_line(text, next) {
-            EndOfLine::Missing => refused(text, LINE_END_EXPECTED, next, count),
-            EndOfLine::Past(place) => Answered {
-                answer: Next::Clause { extra, count },
-                place,
-            },
+            place,
         },
-        Literals::Stopped { refusal, count } => Answered {
-            answer: Next::Refused { refusal, count },
+        Instead::Refused(refusal) => Answered {
+            answer: Next::Refused { refusal, count: 0 },
             place: refusal.place,
         },
     }
 }
 
-// Where no clause stands: the end of the text if it is permitted.
-pub fn no_clause(text: &[u8], at: usize, permitted: bool) -> Answered
-    ensures { λ r. ⌜ r ≡ answeredOf (noClause (now (text .entry)) permitted at) ⌝ }
+// Where no number stands: the end of the text if it may come there, else a refusal.
+fn absent(text: &[u8], at: usize, absence: Absence) -> Instead
+    ensures { λ r. ⌜ r ≡ absent (now (text .entry)) absence at ⌝ }
 {
-    absent(text, CLAUSE_EXPECTED, at, permitted)
-}
-
-// The literals owed after a weight or group.
-fn clause_owed(text: &[u8], at: usize, limits: Limits, extra: u64, lits: &mut [i32]) -> Answered
-    ensures { λ r. ⌜ Answers (owed (now (text .entry)) limits (length (now (lits .entry))) extra at) (now (lits .entry)) (now (lits .exit)) r ⌝ }
-{
-    let place = token::non_terminating_linebreaks(text, at);
-    clause_body(text, place, limits, extra, LITERALS_EXPECTED, false, lits)
-}
-
-fn plain_at(text: &[u8], at: usize, limits: Limits, permitted: bool, lits: &mut [i32]) -> Answered
-    ensures { λ r. ⌜ Answers (plainAt (now (text .entry)) limits (length (now (lits .entry))) permitted at) (now (lits .entry)) (now (lits .exit)) r ⌝ }
-{
-    clause_body(text, at, limits, 0, CLAUSE_EXPECTED, permitted, lits)
-}
-
-fn weighted_at(
-    text: &[u8],
-    at: usize,
-    limits: Limits,
-    permitted: bool,
-    lits: &mut [i32],
-) -> Answered
-    ensures { λ r. ⌜ Answers (weightedAt (now (text .entry)) limits (length (now (lits .entry))) permitted at) (now (lits .entry)) (now (lits .exit)) r ⌝ }
-{
-    match numeral::uint(text, at, LARGEST) {
-        Uint::Missing => no_clause(text, at, permitted),
-        Uint::TooBig => refused(text, WEIGHT_TOO_BIG, at, 0),
-        Uint::Value(weight, next) => clause_owed(text, next, limits, weight, lits),
+    match absence {
+        Absence::MayEnd => {
+            if token::eof(text, at) {
+                return Instead::Ended(at);
+            }
+            Instead::Refused(refuse(text, CLAUSE_EXPECTED, at))
+        }
+        Absence::NoClause => Instead::Refused(refuse(text, CLAUSE_EXPECTED, at)),
+        Absence::NoLiterals => Instead::Refused(refuse(text, LITERALS_EXPECTED, at)),
     }
 }
 
-fn grouped_at(text: &[u8], at: usize, limits: Limits, permitted: bool, lits: &mut [i32]) -> Answered
-    ensures { λ r. ⌜ Answers (groupedAt (now (text .entry)) limits (length (now (lits .entry))) permitted at) (now (lits .entry)) (now (lits .exit)) r ⌝ }
+// The end of the text, or refusal 9, where no clause may come.
+pub fn no_clause(text: &[u8], at: usize) -> Answered
+    ensures { λ r. ⌜ r ≡ answeredOf (instead (absent (now (text .entry)) Absence.MayEnd at)) ⌝ }
 {
-    match numeral::braced_uint(text, at, limits.groups) {
-        Uint::Missing => no_clause(text, at, permitted),
-        Uint::TooBig => refused(text, GROUP_TOO_BIG, at, 0),
-        Uint::Value(group, next) => clause_owed(text, next, limits, group, lits),
+    instead(absent(text, at, Absence::MayEnd))
+}
+
+// How a clause begins by its weight or group, which has a refusal number of its own where it is too big.
+fn start_by(text: &[u8], at: usize, big: u8, absence: Absence, mark: Uint) -> Start
+    ensures { λ r. ⌜ r ≡ startBy (now (text .entry)) big absence at mark ⌝ }
+{
+    match mark {
+        Uint::Missing => Start::Instead(absent(text, at, absence)),
+        Uint::TooBig => Start::Instead(Instead::Refused(refuse(text, big, at))),
+        Uint::Value(extra, next) => Start::Literals {
+            extra,
+            place: token::non_terminating_linebreaks(text, next),
+            absence: Absence::NoLiterals,
+        },
+    }
+}
+
+// How a clause begins in its format.
+fn start_at(text: &[u8], at: usize, format: Format, groups: u64, absence: Absence) -> Start
+    ensures { λ r. ⌜ r ≡ startAt (now (text .entry)) format groups absence at ⌝ }
+{
+    match format {
+        Format::Plain => Start::Literals {
+            extra: 0,
+            place: at,
+            absence,
+        },
+        Format::Weighted => {
+            let weight = numeral::uint(text, at, LARGEST);
+            start_by(text, at, WEIGHT_TOO_BIG, absence, weight)
+        }
+        Format::Grouped => {
+            let group = numeral::braced_uint(text, at, groups);
+            start_by(text, at, GROUP_TOO_BIG, absence, group)
+        }
+    }
+}
+
+// What closes the line of a clause after its 0.
+fn closing(text: &[u8], at: usize, extra: u64, count: usize) -> Answered
+    ensures { λ r. ⌜ Counted count (λ so. answeredOf (closing (now (text .entry)) extra at so)) r ⌝ }
+{
+    match token::interactive_end_of_line(text, at) {
+        EndOfLine::Missing => Answered {
+            answer: Next::Refused {
+                refusal: refuse(text, LINE_END_EXPECTED, at),
+                count,
+            },
+            place: at,
+        },
+        EndOfLine::Past(place) => Answered {
+            answer: Next::Clause { extra, count },
+            place,
+        },
     }
 }
 
@@ -188,14 +185,24 @@ pub fn clause_at(
     at: usize,
     format: Format,
     limits: Limits,
-    permitted: bool,
+    absence: Absence,
     lits: &mut [i32],
 ) -> Answered
-    ensures { λ r. ⌜ Answers (clauseAt (now (text .entry)) limits (length (now (lits .entry))) format permitted at) (now (lits .entry)) (now (lits .exit)) r ⌝ }
+    ensures { λ r. ⌜ Answers (clauseAt (now (text .entry)) limits (length (now (lits .entry))) format absence at) (now (lits .entry)) (now (lits .exit)) r ⌝ }
 {
-    match format {
-        Format::Plain => plain_at(text, at, limits, permitted, lits),
-        Format::Weighted => weighted_at(text, at, limits, permitted, lits),
-        Format::Grouped => grouped_at(text, at, limits, permitted, lits),
+    match start_at(text, at, format, limits.groups, absence) {
+        Start::Instead(i) => instead(i),
+        Start::Literals {
+            extra,
+            place,
+            absence,
+        } => match clause_lits(text, place, limits.literals, lits) {
+            Literals::Nothing => instead(absent(text, place, absence)),
+            Literals::Closed { count, next } => closing(text, next, extra, count),
+            Literals::Stopped { refusal, count } => Answered {
+                answer: Next::Refused { refusal, count },
+                place: refusal.place,
+            },
+        },
     }
 }

@@ -1,6 +1,6 @@
 -- A clause takes at least two bytes, or one where the text ends. Assumes nothing.
 use Prim.Native.Nat.{ℕ, zero, suc, _+_, _-_, _*_, _/_, _≤_, _<_, min, max}
-use mathlib.Core.Bool.{Bool, true, false, cond, _&&_}
+use mathlib.Core.Bool.{true, cond}
 use mathlib.Core.List.{List, [], _∷_, _++_}
 use mathlib.Core.Path.{_≡_, refl, ap, sym, _∙_, subst}
 use native.Mathlib.Omega.{arith}
@@ -9,20 +9,26 @@ use lib.Dec.{leb, eqb}
 use lib.ListN.{length, length-append}
 use lib.IntN.{ℤ}
 use Rattle.dimacs.specs.Loop.{Step, again, answer}
-use Rattle.dimacs.specs.Names.{Reason, numbered, refusal, largest}
+use Rattle.dimacs.specs.Names.{Reason, numberOf, numbered, refusal, largest}
 use Rattle.dimacs.specs.Tokens.{unmoved, atEnd, linebreaks, uintAt, bracedUintAt, endOfLine, lineEnds}
 use Rattle.dimacs.specs.Rows.{Row, ends, closes, stops, readBy, Reading, reads, row}
-use Rattle.dimacs.specs.Clauses.{Literals, nothing, closed, stopped, onRow, nextRow, literalsFrom, literals, Answer, clause, ended, refused, Answered, says, refuses, clauseOf, absent, body, owed, marked, plainAt, weightedAt, groupedAt, clauseAt}
+use Rattle.dimacs.specs.Clauses.{Literals, nothing, closed, stopped, onRow, nextRow, literalsFrom, literals, Answer, clause, ended, refused, Answered, says, instead, absent, startBy, startAt, closing, finish, clauseBy, clauseAt}
 use Rattle.dimacs.specs.declared.Format.{Format}
 use Rattle.dimacs.specs.declared.Limits.{Limits}
 use Rattle.dimacs.specs.declared.Format.the-variants.{Plain, Weighted, Grouped}
 use Rattle.dimacs.specs.declared.Refusal.{Refusal}
+use Rattle.dimacs.specs.declared.Absence.{Absence}
+use Rattle.dimacs.specs.declared.Absence.the-variants.{MayEnd, NoClause, NoLiterals}
+use Rattle.dimacs.specs.declared.Instead.{Instead}
+use Rattle.dimacs.specs.declared.Instead.the-variants.{Ended, Refused}
+use Rattle.dimacs.specs.declared.Start.{Start}
+use Rattle.dimacs.specs.declared.Start.the-variants as start
 use Rattle.dimacs.specs.declared.Uint.{Uint}
 use Rattle.dimacs.specs.declared.Uint.the-variants as uint
 use Rattle.dimacs.specs.declared.EndOfLine.{EndOfLine}
 use Rattle.dimacs.specs.declared.EndOfLine.the-variants as end
 use Rattle.dimacs.proofs.Loops.{Leads, Falls, after, unrolled, kept}
-use Rattle.dimacs.proofs.Tests.{chosen, both-right}
+use Rattle.dimacs.proofs.Tests.{chosen}
 use Rattle.dimacs.proofs.Spans.{Spans, then-spans, Moves, moves, then-moves, moves-then, Closes, EndCloses, end-closes, linebreaks-spans, UintMoves, uint-moves, braced-uint-moves}
 use Rattle.dimacs.proofs.Rows.{RowSpans, row-spans, Grown, row-grows, left}
 
@@ -133,52 +139,52 @@ back {s} {at} {a} h d k = go (d .answer) k
     go ended k = omega arith
     go (refused r so) k = omega arith
 
+-- A clause begins with literals within reach, or what is answered instead stands there.
+abbrev pub Begins : List ℕ → ℕ → Start → Type 0
+Begins s at (start.Literals extra e absence) = Spans s at e
+Begins s at (start.Instead i) = Onward s at (instead i)
+
 module _ (s : List ℕ) where
-  refuses-onward : (why : Reason) (at : ℕ) (so : List ℤ) → Onward s at (refuses s why at so)
+  pub absent-onward : (absence : Absence) (at : ℕ) → Onward s at (instead (absent s absence at))
+  unfolding absent numbered
+  absent-onward MayEnd at =
+      chosen (λ i. Onward s at (instead i)) (atEnd s at) (λ e. let l = leb-true (length s) at e in omega arith) (λ _. omega arith)
+  absent-onward NoClause at = omega arith
+  absent-onward NoLiterals at = omega arith
+
+  start-by-begins : (big : ℕ) (absence : Absence) (at : ℕ) (u : Uint) → UintMoves s at u → Begins s at (startBy s big absence at u)
   unfolding numbered
-  refuses-onward why at so = omega arith
+  start-by-begins big absence at uint.Missing m = absent-onward absence at
+  start-by-begins big absence at uint.TooBig m = omega arith
+  start-by-begins big absence at (uint.Value extra e) m = then-spans (omega arith) (linebreaks-spans s e)
 
-  clause-of-onward : (extra at : ℕ) (d : Answered) → Onward s at d → (l : Literals) → LiteralsSpan s at l → Onward s at (clauseOf s extra d l)
-  clause-of-onward extra at d k nothing m = k
-  clause-of-onward extra at d k (closed so e) m = go (endOfLine s e) (end-closes s e)
+  start-begins : (f : Format) (groups : ℕ) (absence : Absence) (at : ℕ) → Begins s at (startAt s f groups absence at)
+  unfolding startAt
+  start-begins Plain groups absence at = omega arith
+  start-begins Weighted groups absence at = start-by-begins (numberOf Reason.weightTooBig) absence at (uintAt s largest at) (uint-moves s largest at)
+  start-begins Grouped groups absence at = start-by-begins (numberOf Reason.groupTooBig) absence at (bracedUintAt s groups at) (braced-uint-moves s groups at)
+
+  finish-onward : (extra at : ℕ) (absence : Absence) (l : Literals) → LiteralsSpan s at l → Onward s at (finish s extra at absence l)
+  unfolding closing numbered
+  finish-onward extra at absence nothing m = absent-onward absence at
+  finish-onward extra at absence (closed so e) m = go (endOfLine s e) (end-closes s e)
     where
-      go : (x : EndOfLine) → EndCloses s e x → Onward s at (lineEnds x (says (clause extra so)) (refuses s Reason.lineEndExpected e so))
-      go end.Missing c = back (omega arith) (refuses s Reason.lineEndExpected e so) (refuses-onward Reason.lineEndExpected e so)
+      go : (x : EndOfLine) → EndCloses s e x → Onward s at (lineEnds x (says (clause extra so)) (says (refused (refusal s Reason.lineEndExpected e) so) e))
+      go end.Missing c = omega arith
       go (end.Past n) c = omega arith
-  clause-of-onward extra at d k (stopped r so) m = omega arith
-
-  pub absent-onward : (why : Reason) (endPermitted : Bool) (at : ℕ) → Onward s at (absent s why endPermitted at)
-  unfolding absent
-  absent-onward why endPermitted at =
-      chosen (Onward s at) (endPermitted && atEnd s at)
-      (λ e. let l = leb-true (length s) at (both-right endPermitted (atEnd s at) e) in omega arith)
-      (λ _. refuses-onward why at [])
+  finish-onward extra at absence (stopped r so) m = omega arith
 
 module _ (s : List ℕ) (limits : Limits) (room : ℕ) where
-  body-onward : (extra : ℕ) (why : Reason) (endPermitted : Bool) (at : ℕ) → Onward s at (body s limits room extra why endPermitted at)
-  unfolding body
-  body-onward extra why endPermitted at =
-      clause-of-onward s extra at (absent s why endPermitted at) (absent-onward s why endPermitted at) (literals s (limits .literals) room at)
-      (literals-span s (limits .literals) room at)
-
-  owed-onward : (extra at : ℕ) → Onward s at (owed s limits room extra at)
-  unfolding owed
-  owed-onward extra at =
-      let e = linebreaks s at in
-      back (linebreaks-spans s at) (body s limits room extra Reason.literalsExpected false e) (body-onward extra Reason.literalsExpected false e)
-
-  marked-onward : (big : Reason) (endPermitted : Bool) (at : ℕ) (u : Uint) → UintMoves s at u → Onward s at (marked s limits room big endPermitted at u)
-  marked-onward big endPermitted at uint.Missing m = absent-onward s Reason.clauseExpected endPermitted at
-  marked-onward big endPermitted at uint.TooBig m = refuses-onward s big at []
-  marked-onward big endPermitted at (uint.Value extra e) m = back (omega arith) (owed s limits room extra e) (owed-onward extra e)
-
   -- A clause ends within the text and leaves fewer to come; the end is at the text's end; a refusal's place is within reach.
-  pub clause-at-onward : (f : Format) (endPermitted : Bool) (at : ℕ) → Onward s at (clauseAt s limits room f endPermitted at)
-  unfolding clauseAt plainAt weightedAt groupedAt
-  clause-at-onward Plain endPermitted at = body-onward 0 Reason.clauseExpected endPermitted at
-  clause-at-onward Weighted endPermitted at = marked-onward Reason.weightTooBig endPermitted at (uintAt s largest at) (uint-moves s largest at)
-  clause-at-onward Grouped endPermitted at =
-      marked-onward Reason.groupTooBig endPermitted at (bracedUintAt s (limits .groups) at) (braced-uint-moves s (limits .groups) at)
+  pub clause-at-onward : (f : Format) (absence : Absence) (at : ℕ) → Onward s at (clauseAt s limits room f absence at)
+  unfolding clauseAt
+  clause-at-onward f absence at = go (startAt s f (limits .groups) absence at) (start-begins s f (limits .groups) absence at)
+    where
+      go : (x : Start) → Begins s at x → Onward s at (clauseBy s limits room x)
+      go (start.Literals extra e a) h =
+          let l = literals s (limits .literals) room e in
+          back h (finish s extra e a l) (finish-onward s extra e a l (literals-span s (limits .literals) room e))
+      go (start.Instead i) h = h
 
 -- So does a clause, and what is read before a refusal.
 abbrev pub AnswerFits : ℕ → Answer → Type 0
@@ -189,38 +195,26 @@ AnswerFits room (refused r so) = length so ≤ room
 abbrev pub Fits : ℕ → Answered → Type 0
 Fits room d = AnswerFits room (d .answer)
 
+module _ (room : ℕ) where
+  pub instead-fits : (i : Instead) → Fits room (instead i)
+  instead-fits (Ended at) = tt
+  instead-fits (Refused r) = omega arith
+
 module _ (s : List ℕ) (limits : Limits) (room : ℕ) where
-  refuses-fits : (why : Reason) (at : ℕ) → Fits room (refuses s why at [])
-  refuses-fits why at = omega arith
-
-  pub absent-fits : (why : Reason) (endPermitted : Bool) (at : ℕ) → Fits room (absent s why endPermitted at)
-  unfolding absent
-  absent-fits why endPermitted at = chosen (Fits room) (endPermitted && atEnd s at) (λ _. tt) (λ _. refuses-fits why at)
-
-  body-fits : (extra : ℕ) (why : Reason) (endPermitted : Bool) (at : ℕ) → Fits room (body s limits room extra why endPermitted at)
-  unfolding body
-  body-fits extra why endPermitted at = go (literals s (limits .literals) room at) (literals-fit s (limits .literals) room at)
+  finish-fits : (extra at : ℕ) (absence : Absence) (l : Literals) → LiteralsFit room l → Fits room (finish s extra at absence l)
+  unfolding closing
+  finish-fits extra at absence nothing h = instead-fits room (absent s absence at)
+  finish-fits extra at absence (closed so e) h = go (endOfLine s e)
     where
-      close : (so : List ℤ) (e : ℕ) → length so ≤ room → (x : EndOfLine) → Fits room (lineEnds x (says (clause extra so)) (refuses s Reason.lineEndExpected e so))
-      close so e h end.Missing = h
-      close so e h (end.Past n) = h
+      go : (x : EndOfLine) → Fits room (lineEnds x (says (clause extra so)) (says (refused (refusal s Reason.lineEndExpected e) so) e))
+      go end.Missing = h
+      go (end.Past n) = h
+  finish-fits extra at absence (stopped r so) h = h
 
-      go : (l : Literals) → LiteralsFit room l → Fits room (clauseOf s extra (absent s why endPermitted at) l)
-      go nothing h = absent-fits why endPermitted at
-      go (closed so e) h = close so e h (endOfLine s e)
-      go (stopped r so) h = h
-
-  owed-fits : (extra at : ℕ) → Fits room (owed s limits room extra at)
-  unfolding owed
-  owed-fits extra at = body-fits extra Reason.literalsExpected false (linebreaks s at)
-
-  marked-fits : (big : Reason) (endPermitted : Bool) (at : ℕ) (u : Uint) → Fits room (marked s limits room big endPermitted at u)
-  marked-fits big endPermitted at uint.Missing = absent-fits Reason.clauseExpected endPermitted at
-  marked-fits big endPermitted at uint.TooBig = refuses-fits big at
-  marked-fits big endPermitted at (uint.Value extra e) = owed-fits extra e
-
-  pub clause-at-fits : (f : Format) (endPermitted : Bool) (at : ℕ) → Fits room (clauseAt s limits room f endPermitted at)
-  unfolding clauseAt plainAt weightedAt groupedAt
-  clause-at-fits Plain endPermitted at = body-fits 0 Reason.clauseExpected endPermitted at
-  clause-at-fits Weighted endPermitted at = marked-fits Reason.weightTooBig endPermitted at (uintAt s largest at)
-  clause-at-fits Grouped endPermitted at = marked-fits Reason.groupTooBig endPermitted at (bracedUintAt s (limits .groups) at)
+  pub clause-at-fits : (f : Format) (absence : Absence) (at : ℕ) → Fits room (clauseAt s limits room f absence at)
+  unfolding clauseAt
+  clause-at-fits f absence at = go (startAt s f (limits .groups) absence at)
+    where
+      go : (x : Start) → Fits room (clauseBy s limits room x)
+      go (start.Literals extra e a) = finish-fits extra e a (literals s (limits .literals) room e) (literals-fit s (limits .literals) room e)
+      go (start.Instead i) = instead-fits room i

@@ -11,10 +11,12 @@ use lib.ListN.{length, getD}
 use Rattle.dimacs.specs.Loop.{Step, again, answer, loop}
 use Rattle.dimacs.specs.Names.{largest}
 use Rattle.dimacs.specs.Tokens.{none, unmoved, blanks, lineEnd, comment, newline, commentOrNewline, lines, unsigned, uintAt, bracedUintAt, intAt}
-use Rattle.dimacs.specs.Clauses.{Answered, noClause, body, plainAt, weightedAt, groupedAt, clauseAt}
+use Rattle.dimacs.specs.Clauses.{Answered, instead, absent, startAt, clauseAt}
 use Rattle.dimacs.specs.Texts.{nextClause}
 use Rattle.dimacs.specs.declared.Format.{Format}
 use Rattle.dimacs.specs.declared.Format.the-variants.{Plain, Weighted, Grouped}
+use Rattle.dimacs.specs.declared.Absence.{Absence}
+use Rattle.dimacs.specs.declared.Absence.the-variants.{MayEnd, NoClause}
 use Rattle.dimacs.specs.declared.Limits.{Limits}
 use Rattle.dimacs.specs.declared.Int.{Int}
 use Rattle.dimacs.specs.declared.Int.the-variants as int
@@ -73,11 +75,11 @@ module _ (s : List ℕ) (limits : Limits) where
   bare-none Weighted at b = rw (b .number)
   bare-none Grouped at b = rw (braced-no s at (b .brace))
 
-  pub no-clause : (room : ℕ) (f : Format) (endPermitted : Bool) (at : ℕ) → stands f at ≡ false → clauseAt s limits room f endPermitted at ≡ noClause s endPermitted at
-  unfolding clauseAt plainAt weightedAt groupedAt body
-  no-clause room Plain endPermitted at h = rw (literals-none s (limits .literals) room at (no-int (intAt s (limits .literals) at) h))
-  no-clause room Weighted endPermitted at h = rw (no-uint (uintAt s largest at) h)
-  no-clause room Grouped endPermitted at h = rw (no-uint (bracedUintAt s (limits .groups) at) h)
+  pub no-clause : (room : ℕ) (f : Format) (absence : Absence) (at : ℕ) → stands f at ≡ false → clauseAt s limits room f absence at ≡ instead (absent s absence at)
+  unfolding clauseAt startAt
+  no-clause room Plain absence at h = rw (literals-none s (limits .literals) room at (no-int (intAt s (limits .literals) at) h))
+  no-clause room Weighted absence at h = rw (no-uint (uintAt s largest at) h)
+  no-clause room Grouped absence at h = rw (no-uint (bracedUintAt s (limits .groups) at) h)
 
 -- The bytes with which a comment or a line end begins: `c`, CR and LF.
 abbrev pub OpensLine : ℕ → Type 0
@@ -106,14 +108,14 @@ module _ (s : List ℕ) (at : ℕ) where
       unlike (sym (eq-eqb (newline s at) at (newline-no s at (lineEnd s at) refl l)) ∙ h)))
 
 -- No clause begins with one of them.
-pub no-clause-at-line : (s : List ℕ) (limits : Limits) (room : ℕ) (f : Format) (endPermitted : Bool) (at : ℕ) → OpensLine (getD s at 0)
-    → clauseAt s limits room f endPermitted at ≡ noClause s endPermitted at
-no-clause-at-line s limits room f endPermitted at o = no-clause s limits room f endPermitted at (bare-none s limits f at (line-bare s at o))
+pub no-clause-at-line : (s : List ℕ) (limits : Limits) (room : ℕ) (f : Format) (absence : Absence) (at : ℕ) → OpensLine (getD s at 0)
+    → clauseAt s limits room f absence at ≡ instead (absent s absence at)
+no-clause-at-line s limits room f absence at o = no-clause s limits room f absence at (bare-none s limits f at (line-bare s at o))
 
 module _ (s : List ℕ) (f : Format) (limits : Limits) (room count : ℕ) where
-  -- The count is not applied, or is reached.
-  abbrev pub mayEnd : Bool
-  mayEnd = eqb (limits .clauses) 0 || leb (limits .clauses) count
+  -- The end may come if the count is not applied, or is reached.
+  abbrev pub mayEnd : Absence
+  mayEnd = cond (eqb (limits .clauses) 0 || leb (limits .clauses) count) MayEnd NoClause
 
   -- The count is not applied, or not reached.
   abbrev pub mayGoOn : Bool
@@ -123,20 +125,20 @@ module _ (s : List ℕ) (f : Format) (limits : Limits) (room count : ℕ) where
   abbrev pub inOrder : ℕ → Step ℕ Answered
   inOrder at =
       cond (mayGoOn && stands s limits f at) (answer (clauseAt s limits room f mayEnd at))
-      (cond (unmoved at (comment s at)) (cond (unmoved at (newline s at)) (answer (noClause s mayEnd at)) (again (newline s at))) (again (comment s at)))
+      (cond (unmoved at (comment s at)) (cond (unmoved at (newline s at)) (answer (instead (absent s mayEnd at))) (again (newline s at))) (again (comment s at)))
 
   -- What is said where no comment and no line end stands.
   abbrev tried : ℕ → Answered
   tried at =
-      cond (eqb (limits .clauses) 0) (clauseAt s limits room f true at)
-      (cond (leb (limits .clauses) count) (noClause s true at) (clauseAt s limits room f false at))
+      cond (eqb (limits .clauses) 0) (clauseAt s limits room f MayEnd at)
+      (cond (leb (limits .clauses) count) (instead (absent s MayEnd at)) (clauseAt s limits room f NoClause at))
 
   by-count : (a b : Bool) (at : ℕ)
-      → cond ((a || not b) && stands s limits f at) (clauseAt s limits room f (a || b) at) (noClause s (a || b) at)
-      ≡ cond a (clauseAt s limits room f true at) (cond b (noClause s true at) (clauseAt s limits room f false at))
-  by-count true b at = tested (stands s limits f at) (λ h. rw h) (λ h. rw (h, no-clause s limits room f true at h))
+      → cond ((a || not b) && stands s limits f at) (clauseAt s limits room f (cond (a || b) MayEnd NoClause) at) (instead (absent s (cond (a || b) MayEnd NoClause) at))
+      ≡ cond a (clauseAt s limits room f MayEnd at) (cond b (instead (absent s MayEnd at)) (clauseAt s limits room f NoClause at))
+  by-count true b at = tested (stands s limits f at) (λ h. rw h) (λ h. rw (h, no-clause s limits room f MayEnd at h))
   by-count false true at = refl
-  by-count false false at = tested (stands s limits f at) (λ h. rw h) (λ h. rw (h, no-clause s limits room f false at h))
+  by-count false false at = tested (stands s limits f at) (λ h. rw h) (λ h. rw (h, no-clause s limits room f NoClause at h))
 
   in-order : (over : Answered) (n at : ℕ) → length s - at < n → loop inOrder over n at ≡ tried (lines s at)
   unfolding commentOrNewline
@@ -145,7 +147,7 @@ module _ (s : List ℕ) (f : Format) (limits : Limits) (room count : ℕ) where
       loop-after inOrder over n at
       ∙ tested (unmoved at (comment s at))
       (λ c. tested (unmoved at (newline s at))
-      (λ d. rw (lines-step s at, c, d) (go (mayGoOn && stands s limits f at) (clauseAt s limits room f mayEnd at) (noClause s mayEnd at) (by-count (eqb (limits .clauses) 0) (leb (limits .clauses) count) at)))
+      (λ d. rw (lines-step s at, c, d) (go (mayGoOn && stands s limits f at) (clauseAt s limits room f mayEnd at) (instead (absent s mayEnd at)) (by-count (eqb (limits .clauses) 0) (leb (limits .clauses) count) at)))
       (λ d. rw (lines-step s at, skips (newline-opens s at d), c, d) (in-order over n (newline s at) (omega (arith, moved (newline-spans s at) d)))))
       (λ c. rw (lines-step s at, skips (comment-opens s at c), c) (in-order over n (comment s at) (omega (arith, moved (comment-spans s at) c))))
     where

@@ -1,7 +1,6 @@
 -- A text of n bytes has at most (n + 1) / 2 clauses; its answers end in one end or one refusal, which is then repeated and whose place is within
 -- the text. Assumes nothing.
 use Prim.Native.Nat.{ℕ, zero, suc, _+_, _/_, _≤_, _<_}
-use mathlib.Core.Bool.{true, false}
 use mathlib.Core.List.{List, [], _∷_}
 use mathlib.Core.Path.{_≡_, refl, sym, subst}
 use native.Mathlib.Omega.{arith}
@@ -12,8 +11,8 @@ use Rattle.dimacs.specs.Bytes.{bytes}
 use Rattle.dimacs.specs.Names.{Reason, numbered, refusal, ceiling, largest}
 use Rattle.dimacs.specs.Tokens.{unmoved, blanks, lines, word, uintAt, endOfLine, lineEnds}
 use Rattle.dimacs.specs.Header.{formatWord, headerOf, counted, headerEnd, thirdThere, thirdCount, clauseCount, variableCount, afterP, openingOf, unlimited, limitsOf}
-use Rattle.dimacs.specs.Clauses.{Answer, clause, ended, refused, Answered, says, noClause, clauseAt}
-use Rattle.dimacs.specs.Texts.{Cursor, cursorAt, oneMore, nextClause, answerBy, answerAt, settledBy, settled, turnBy, turn, answersFrom, begin, textBy, text}
+use Rattle.dimacs.specs.Clauses.{Answer, clause, ended, refused, Answered, says, instead, absent, clauseAt}
+use Rattle.dimacs.specs.Texts.{progress, oneMore, nextClause, answerBy, answerAt, finalOf, settledBy, settled, turnBy, turn, answersFrom, begin, textBy, text}
 use Rattle.dimacs.specs.declared.Format.{Format}
 use Rattle.dimacs.specs.declared.Limits.{Limits}
 use Rattle.dimacs.specs.declared.Format.the-variants.{Plain, Weighted, Grouped}
@@ -26,12 +25,14 @@ use Rattle.dimacs.specs.declared.Uint.{Uint}
 use Rattle.dimacs.specs.declared.Uint.the-variants as uint
 use Rattle.dimacs.specs.declared.EndOfLine.{EndOfLine}
 use Rattle.dimacs.specs.declared.EndOfLine.the-variants as end
+use Rattle.dimacs.specs.declared.Absence.the-variants.{MayEnd, NoClause}
+use Rattle.dimacs.specs.declared.Progress.{Progress}
 use Rattle.dimacs.specs.declared.Final.{Final}
 use Rattle.dimacs.specs.declared.Final.the-variants as final
 use Rattle.dimacs.proofs.Loops.{andOn, Gives, Lowers, said-unrolled, said-has}
 use Rattle.dimacs.proofs.Tests.{chosen}
 use Rattle.dimacs.proofs.Spans.{then-spans, EndCloses, end-closes, blanks-spans, lines-spans, word-spans, UintMoves, uint-moves, UintWithin, uint-within}
-use Rattle.dimacs.proofs.Clauses.{toCome, Placed, Onward, back, absent-onward, clause-at-onward, Fits, absent-fits, clause-at-fits}
+use Rattle.dimacs.proofs.Clauses.{toCome, Placed, Onward, back, absent-onward, clause-at-onward, Fits, instead-fits, clause-at-fits}
 
 -- Where a text opens: the clauses begin, or the header is refused, within the text, and no more variables are counted than the ceiling.
 abbrev pub Opens : List ℕ → Opening → Type 0
@@ -108,77 +109,75 @@ module _ (s : List ℕ) (f : Format) (limits : Limits) (room : ℕ) where
   next-clause-onward count at =
       let e = lines s (blanks s at) in
       let h = then-spans (blanks-spans s at) (lines-spans s (blanks s at)) in
-      chosen (Onward s at) (eqb (limits .clauses) 0) (λ _. back h (clauseAt s limits room f true e) (clause-at-onward s limits room f true e))
+      chosen (Onward s at) (eqb (limits .clauses) 0) (λ _. back h (clauseAt s limits room f MayEnd e) (clause-at-onward s limits room f MayEnd e))
       (λ _. chosen (Onward s at) (leb (limits .clauses) count)
-      (λ _. back h (noClause s true e) (absent-onward s Reason.clauseExpected true e))
-      (λ _. back h (clauseAt s limits room f false e) (clause-at-onward s limits room f false e)))
+      (λ _. back h (instead (absent s MayEnd e)) (absent-onward s MayEnd e))
+      (λ _. back h (clauseAt s limits room f NoClause e) (clause-at-onward s limits room f NoClause e)))
 
-  left : Cursor → ℕ
+  left : Progress → ℕ
   left c = toCome s (c .place)
 
-  turn-lowers : (c : Cursor) → Lowers left c (turn s f limits room c)
+  turn-lowers : (c : Progress) → Lowers left c (turn s f limits room c)
   unfolding turn answerAt left
-  turn-lowers c = go (c .final)
+  turn-lowers c = go (c .last)
     where
-      by : (a : Answer) (e : ℕ) → Placed s (c .place) e a → (x : Final) → Lowers left c (turnBy (settledBy (cursorAt (c .place) (c .count) x) e a) a)
-      by (clause extra so) e h x = h .fewer
-      by ended e h x = tt
-      by (refused r so) e h x = tt
+      by : (a : Answer) (e : ℕ) → Placed s (c .place) e a → Lowers left c (turnBy (settledBy (c .count) e (finalOf a)) a)
+      by (clause extra so) e h = h .fewer
+      by ended e h = tt
+      by (refused r so) e h = tt
 
-      go : (x : Final)
-          → Lowers left c
-          (turnBy (settled (cursorAt (c .place) (c .count) x) (answerBy s f limits room c x)) (answerBy s f limits room c x .answer))
-      go final.Open = let d = nextClause s f limits room (c .count) (c .place) in by (d .answer) (d .place) (next-clause-onward (c .count) (c .place)) final.Open
+      go : (x : Final) → let a = answerBy s f limits room c x in Lowers left c (turnBy (settled c a) (a .answer))
+      go final.Open = let d = nextClause s f limits room (c .count) (c .place) in by (d .answer) (d .place) (next-clause-onward (c .count) (c .place))
       go final.Ended = tt
       go (final.Refused r) = tt
 
-  -- One answer, and then those from the cursor after it.
-  pub answers-step : (c : Cursor) → answersFrom s f limits room c ≡ andOn (turn s f limits room c) (answersFrom s f limits room)
+  -- One answer, and then those that come after it.
+  pub answers-step : (c : Progress) → answersFrom s f limits room c ≡ andOn (turn s f limits room c) (answersFrom s f limits room)
   unfolding answersFrom left
   answers-step c = said-unrolled (turn s f limits room) left turn-lowers (length s + 2) c (omega arith)
 
   -- No more clauses than may come, and then one end or one refusal.
-  pub answers-finish : (c : Cursor) → Finished (toCome s (c .place)) (answersFrom s f limits room c)
+  pub answers-finish : (c : Progress) → Finished (toCome s (c .place)) (answersFrom s f limits room c)
   unfolding answersFrom turn left
   answers-finish c =
       said-has (turn s f limits room) left turn-lowers (λ x l. Finished (left x) l)
       (λ x. let d = answerAt s f limits room x in one (left x) (settled x d) (d .answer))
       (length s + 2) c (omega arith)
     where
-      one : (n : ℕ) (y : Cursor) (a : Answer)
+      one : (n : ℕ) (y : Progress) (a : Answer)
           → Gives (λ b z. (l : List Answer) → left z < n → Finished (left z) l → Finished n (b ∷ l)) (λ b. Finished n (b ∷ [])) (turnBy y a)
       one n y (clause extra so) = λ l h k. record { clauses = suc (k .clauses); few = omega (arith, k .few); so = clause-then (k .so) }
       one n y ended = record { clauses = 0; few = omega arith; so = ends }
       one n y (refused r so) = record { clauses = 0; few = omega arith; so = stops }
 
 -- No answer has more literals than there is room for.
-pub answer-fits : (s : List ℕ) (f : Format) (limits : Limits) (room : ℕ) (c : Cursor) → Fits room (answerAt s f limits room c)
+pub answer-fits : (s : List ℕ) (f : Format) (limits : Limits) (room : ℕ) (c : Progress) → Fits room (answerAt s f limits room c)
 unfolding answerAt nextClause
-answer-fits s f limits room c = go (c .final)
+answer-fits s f limits room c = go (c .last)
   where
     go : (x : Final) → Fits room (answerBy s f limits room c x)
     go final.Open =
         let e = lines s (blanks s (c .place)) in
-        chosen (Fits room) (eqb (limits .clauses) 0) (λ _. clause-at-fits s limits room f true e)
-        (λ _. chosen (Fits room) (leb (limits .clauses) (c .count)) (λ _. absent-fits s limits room Reason.clauseExpected true e) (λ _. clause-at-fits s limits room f false e))
+        chosen (Fits room) (eqb (limits .clauses) 0) (λ _. clause-at-fits s limits room f MayEnd e)
+        (λ _. chosen (Fits room) (leb (limits .clauses) (c .count)) (λ _. instead-fits room (absent s MayEnd e)) (λ _. clause-at-fits s limits room f NoClause e))
     go final.Ended = tt
     go (final.Refused r) = omega arith
 
--- An answer that is the end or a refusal is answered again from the cursor after it, the refusal with no literals, and that cursor stays.
-pub record Repeats (s : List ℕ) (f : Format) (limits : Limits) (room : ℕ) (c : Cursor) (again : Answered) : Type 0 where
+-- An answer that is the end or a refusal is answered again after it, the refusal with no literals, and reading stays where it is.
+pub record Repeats (s : List ℕ) (f : Format) (limits : Limits) (room : ℕ) (c : Progress) (again : Answered) : Type 0 where
   pub answer : answerAt s f limits room c ≡ again
-  pub cursor : settled c again ≡ c
+  pub stays : settled c again ≡ c
 
-abbrev pub RepeatsAfter : List ℕ → Format → Limits → ℕ → Cursor → ℕ → Answer → Type 0
+abbrev pub RepeatsAfter : List ℕ → Format → Limits → ℕ → Progress → ℕ → Answer → Type 0
 RepeatsAfter s f limits room c at (clause extra so) = Unit {0}
-RepeatsAfter s f limits room c at ended = Repeats s f limits room (settledBy c at ended) (says ended at)
-RepeatsAfter s f limits room c at (refused r so) = Repeats s f limits room (settledBy c at (refused r so)) (says (refused r []) at)
+RepeatsAfter s f limits room c at ended = Repeats s f limits room (settled c (says ended at)) (says ended at)
+RepeatsAfter s f limits room c at (refused r so) = Repeats s f limits room (settled c (says (refused r so) at)) (says (refused r []) at)
 
-pub repeated : (s : List ℕ) (f : Format) (limits : Limits) (room : ℕ) (c : Cursor) (at : ℕ) (a : Answer) → RepeatsAfter s f limits room c at a
+pub repeated : (s : List ℕ) (f : Format) (limits : Limits) (room : ℕ) (c : Progress) (at : ℕ) (a : Answer) → RepeatsAfter s f limits room c at a
 unfolding answerAt
 repeated s f limits room c at (clause extra so) = tt
-repeated s f limits room c at ended = record { answer = refl; cursor = refl }
-repeated s f limits room c at (refused r so) = record { answer = refl; cursor = refl }
+repeated s f limits room c at ended = record { answer = refl; stays = refl }
+repeated s f limits room c at (refused r so) = record { answer = refl; stays = refl }
 
 -- A whole text: a refused header has no answers; else they finish, with at most (n + 1) / 2 clauses in n bytes.
 abbrev pub TextEnds : List ℕ → Opening → List Answer → Type 0
@@ -215,18 +214,18 @@ OpeningWithin s (opening.Refused r) = r .place ≤ length s
 
 module _ (s : List ℕ) (f : Format) (limits : Limits) (room : ℕ) where
   abbrev from : ℕ → ℕ → List Answer
-  from at count = answersFrom s f limits room (cursorAt at count final.Open)
+  from at count = answersFrom s f limits room (progress at count final.Open)
 
   answers-within : (n at count : ℕ) → at ≤ length s → toCome s at < n → AllWithin s (from at count)
   unfolding turn answerAt
   answers-within zero at count h k = absurd (omega arith)
   answers-within (suc n) at count h k =
       let d = nextClause s f limits room count at in
-      subst (AllWithin s) (sym (answers-step s f limits room (cursorAt at count final.Open)))
+      subst (AllWithin s) (sym (answers-step s f limits room (progress at count final.Open)))
       (go (d .place) (d .answer) (next-clause-onward s f limits room count at) (λ e h′ k′. answers-within n e (oneMore count) h′ k′))
     where
       go : (e : ℕ) (a : Answer) → Placed s at e a → ((e′ : ℕ) → e′ ≤ length s → toCome s e′ < n → AllWithin s (from e′ (oneMore count)))
-          → AllWithin s (andOn (turnBy (settledBy (cursorAt at count final.Open) e a) a) (answersFrom s f limits room))
+          → AllWithin s (andOn (turnBy (settledBy count e (finalOf a)) a) (answersFrom s f limits room))
       go e (clause extra so) p next = (tt, next e (p .within) (omega (arith, p .fewer)))
       go e ended p next = (tt, tt)
       go e (refused r so) p next = (omega (arith, p .within), tt)

@@ -1,18 +1,24 @@
 -- A clause of each format.
 use Prim.Native.Nat.{ℕ, suc}
-use mathlib.Core.Bool.{Bool, false, cond, _&&_}
+use mathlib.Core.Bool.{cond}
 use mathlib.Core.List.{List, []}
 use lib.ListN.{length}
 use lib.Dec.{eqb}
 use lib.IntN.{ℤ}
 use Rattle.dimacs.specs.Loop.{Step, again, answer, loop}
-use Rattle.dimacs.specs.Names.{Reason, refusal, largest}
+use Rattle.dimacs.specs.Names.{Reason, numberOf, numbered, refusal, largest}
 use Rattle.dimacs.specs.Tokens.{unmoved, atEnd, linebreaks, uintAt, bracedUintAt, endOfLine, lineEnds}
 use Rattle.dimacs.specs.Rows.{Row, ends, closes, stops, Reading, reads, row}
 use Rattle.dimacs.specs.declared.Format.{Format}
 use Rattle.dimacs.specs.declared.Limits.{Limits}
 use Rattle.dimacs.specs.declared.Format.the-variants.{Plain, Weighted, Grouped}
 use Rattle.dimacs.specs.declared.Refusal.{Refusal}
+use Rattle.dimacs.specs.declared.Absence.{Absence}
+use Rattle.dimacs.specs.declared.Absence.the-variants.{MayEnd, NoClause, NoLiterals}
+use Rattle.dimacs.specs.declared.Instead.{Instead}
+use Rattle.dimacs.specs.declared.Instead.the-variants.{Ended, Refused}
+use Rattle.dimacs.specs.declared.Start.{Start}
+use Rattle.dimacs.specs.declared.Start.the-variants as start
 use Rattle.dimacs.specs.declared.Uint.{Uint}
 use Rattle.dimacs.specs.declared.Uint.the-variants as uint
 
@@ -62,54 +68,47 @@ pub record Answered : Type 0 where
 abbrev pub says : Answer → ℕ → Answered
 says a at = record { answer = a; place = at }
 
+-- What is answered where no clause stands, with no literals.
+abbrev pub instead : Instead → Answered
+instead (Ended at) = says ended at
+instead (Refused r) = says (refused r []) (r .place)
+
 module _ (s : List ℕ) where
-  -- A refusal as an answer.
-  abbrev pub refuses : Reason → ℕ → List ℤ → Answered
-  refuses why at so = says (refused (refusal s why at) so) at
+  -- Where no number stands: the end of the text if it may come there, else a refusal.
+  unfoldable pub absent : Absence → ℕ → Instead
+  absent MayEnd at = cond (atEnd s at) (Ended at) (Refused (refusal s Reason.clauseExpected at))
+  absent NoClause at = Refused (refusal s Reason.clauseExpected at)
+  absent NoLiterals at = Refused (refusal s Reason.literalsExpected at)
 
-  -- By the literals: after the 0, a line end or the end of the text must stand on its line. Where there is nothing, another answer is given.
-  abbrev pub clauseOf : ℕ → Answered → Literals → Answered
-  clauseOf extra otherwise nothing = otherwise
-  clauseOf extra otherwise (closed so at) = lineEnds (endOfLine s at) (says (clause extra so)) (refuses Reason.lineEndExpected at so)
-  clauseOf extra otherwise (stopped r so) = says (refused r so) (r .place)
+  -- By the weight or group at a place, which has a refusal number of its own where it is too big. After it line ends and comments may come; then
+  -- literals must.
+  abbrev pub startBy : ℕ → Absence → ℕ → Uint → Start
+  startBy big absence at uint.Missing = start.Instead (absent absence at)
+  startBy big absence at uint.TooBig = start.Instead (Refused (numbered s big at))
+  startBy big absence at (uint.Value extra next) = start.Literals extra (linebreaks s next) NoLiterals
 
-  -- Where no number stands: the end of the text if it is permitted, else a refusal.
-  unfoldable pub absent : Reason → Bool → ℕ → Answered
-  absent why endPermitted at = cond (endPermitted && atEnd s at) (says ended at) (refuses why at [])
+  -- How a clause begins: a plain one with its first number, others with a weight or with a group up to its limit.
+  unfoldable pub startAt : Format → ℕ → Absence → ℕ → Start
+  startAt Plain groups absence at = start.Literals 0 at absence
+  startAt Weighted groups absence at = startBy (numberOf Reason.weightTooBig) absence at (uintAt s largest at)
+  startAt Grouped groups absence at = startBy (numberOf Reason.groupTooBig) absence at (bracedUintAt s groups at)
 
-  -- Where no clause stands, that refusal is 9.
-  abbrev pub noClause : Bool → ℕ → Answered
-  noClause = absent Reason.clauseExpected
+  -- After the 0, a line end or the end of the text must stand on its line.
+  unfoldable pub closing : ℕ → ℕ → List ℤ → Answered
+  closing extra at so = lineEnds (endOfLine s at) (says (clause extra so)) (says (refused (refusal s Reason.lineEndExpected at) so) at)
+
+  -- How a clause ends, by its literals from a place on.
+  abbrev pub finish : ℕ → ℕ → Absence → Literals → Answered
+  finish extra at absence nothing = instead (absent absence at)
+  finish extra at absence (closed so next) = closing extra next so
+  finish extra at absence (stopped r so) = says (refused r so) (r .place)
 
 module _ (s : List ℕ) (limits : Limits) (room : ℕ) where
-  -- A clause from its literals on, or what is said where no number stands.
-  unfoldable pub body : ℕ → Reason → Bool → ℕ → Answered
-  body extra why endPermitted at = clauseOf s extra (absent s why endPermitted at) (literals s (limits .literals) room at)
-
-  -- After a weight or group, line ends and comments may come; then literals must.
-  unfoldable pub owed : ℕ → ℕ → Answered
-  owed extra at = body extra Reason.literalsExpected false (linebreaks s at)
-
-  -- By the weight or group at a place.
-  abbrev pub marked : Reason → Bool → ℕ → Uint → Answered
-  marked big endPermitted at uint.Missing = noClause s endPermitted at
-  marked big endPermitted at uint.TooBig = refuses s big at []
-  marked big endPermitted at (uint.Value extra next) = owed extra next
-
-  -- A plain clause begins with its first number.
-  unfoldable pub plainAt : Bool → ℕ → Answered
-  plainAt = body 0 Reason.clauseExpected
-
-  -- A weighted clause begins with its weight.
-  unfoldable pub weightedAt : Bool → ℕ → Answered
-  weightedAt endPermitted at = marked Reason.weightTooBig endPermitted at (uintAt s largest at)
-
-  -- A grouped clause begins with its group.
-  unfoldable pub groupedAt : Bool → ℕ → Answered
-  groupedAt endPermitted at = marked Reason.groupTooBig endPermitted at (bracedUintAt s (limits .groups) at)
+  -- A clause by how it begins.
+  abbrev pub clauseBy : Start → Answered
+  clauseBy (start.Literals extra at absence) = finish s extra at absence (literals s (limits .literals) room at)
+  clauseBy (start.Instead i) = instead i
 
   -- A clause at a place where no comment and no line end stands.
-  unfoldable pub clauseAt : Format → Bool → ℕ → Answered
-  clauseAt Plain = plainAt
-  clauseAt Weighted = weightedAt
-  clauseAt Grouped = groupedAt
+  unfoldable pub clauseAt : Format → Absence → ℕ → Answered
+  clauseAt f absence at = clauseBy (startAt s f (limits .groups) absence at)

@@ -1,6 +1,6 @@
 -- The whole of a text of clauses: its opening, and the answers one after the other.
 use Prim.Native.Nat.{ℕ, _+_}
-use mathlib.Core.Bool.{true, false, cond}
+use mathlib.Core.Bool.{cond}
 use mathlib.Core.List.{List, []}
 use lib.ListN.{length}
 use lib.Dec.{ltb, leb, eqb}
@@ -8,24 +8,20 @@ use Rattle.dimacs.specs.Loop.{Turn, on, last, said}
 use Rattle.dimacs.specs.Names.{largest}
 use Rattle.dimacs.specs.Tokens.{blanks, lines}
 use Rattle.dimacs.specs.Header.{openingOf, unlimited, limitsOf}
-use Rattle.dimacs.specs.Clauses.{Answer, clause, ended, refused, Answered, says, noClause, clauseAt}
+use Rattle.dimacs.specs.Clauses.{Answer, clause, ended, refused, Answered, says, instead, absent, clauseAt}
 use Rattle.dimacs.specs.declared.Format.{Format}
 use Rattle.dimacs.specs.declared.Limits.{Limits}
 use Rattle.dimacs.specs.declared.Mode.{Mode}
 use Rattle.dimacs.specs.declared.Opening.{Opening}
 use Rattle.dimacs.specs.declared.Opening.the-variants as opening
+use Rattle.dimacs.specs.declared.Absence.the-variants.{MayEnd, NoClause}
+use Rattle.dimacs.specs.declared.Progress.{Progress}
 use Rattle.dimacs.specs.declared.Final.{Final}
 use Rattle.dimacs.specs.declared.Final.the-variants as final
 
--- Where a text is read: the place, the clauses read, and the final answer once there is one.
-pub record Cursor : Type 0 where
-  pub place : ℕ
-  pub count : ℕ
-  pub final : Final
-
--- A cursor by its three parts.
-abbrev pub cursorAt : ℕ → ℕ → Final → Cursor
-cursorAt at count f = record { place = at; count = count; final = f }
+-- How far a text is read, by its three parts.
+abbrev pub progress : ℕ → ℕ → Final → Progress
+progress at count f = record { place = at; count = count; last = f }
 
 -- One clause more. A count is a 64-bit number and stays at the largest.
 abbrev pub oneMore : ℕ → ℕ
@@ -39,47 +35,53 @@ module _ (s : List ℕ) (f : Format) (limits : Limits) (room : ℕ) where
   nextClause count at =
       let e = lines s (blanks s at) in
       cond (eqb (limits .clauses) 0)
-      (clauseAt s limits room f true e)
-      (cond (leb (limits .clauses) count) (noClause s true e) (clauseAt s limits room f false e))
+      (clauseAt s limits room f MayEnd e)
+      (cond (leb (limits .clauses) count) (instead (absent s MayEnd e)) (clauseAt s limits room f NoClause e))
 
   -- The end, once answered, is answered again. The first refusal is final and is repeated with no literals.
-  abbrev pub answerBy : Cursor → Final → Answered
-  answerBy c final.Open = nextClause (c .count) (c .place)
-  answerBy c final.Ended = says ended (c .place)
-  answerBy c (final.Refused r) = says (refused r []) (c .place)
+  abbrev pub answerBy : Progress → Final → Answered
+  answerBy p final.Open = nextClause (p .count) (p .place)
+  answerBy p final.Ended = says ended (p .place)
+  answerBy p (final.Refused r) = says (refused r []) (p .place)
 
-  -- The answer from a cursor.
-  unfoldable pub answerAt : Cursor → Answered
-  answerAt c = answerBy c (c .final)
+  -- The answer to the next call.
+  unfoldable pub answerAt : Progress → Answered
+  answerAt p = answerBy p (p .last)
 
--- The cursor after an answer and its place.
-abbrev pub settledBy : Cursor → ℕ → Answer → Cursor
-settledBy c at (clause extra so) = cursorAt at (oneMore (c .count)) (c .final)
-settledBy c at ended = cursorAt at (c .count) final.Ended
-settledBy c at (refused r so) = cursorAt at (c .count) (final.Refused r)
+-- The end and a refusal are final.
+abbrev pub finalOf : Answer → Final
+finalOf (clause extra so) = final.Open
+finalOf ended = final.Ended
+finalOf (refused r so) = final.Refused r
 
--- The cursor after an answer.
-abbrev pub settled : Cursor → Answered → Cursor
-settled c a = settledBy c (a .place) (a .answer)
+-- After so many clauses and an answer, at its place: a clause counts.
+abbrev pub settledBy : ℕ → ℕ → Final → Progress
+settledBy count at final.Open = progress at (oneMore count) final.Open
+settledBy count at final.Ended = progress at count final.Ended
+settledBy count at (final.Refused r) = progress at count (final.Refused r)
+
+-- How far a text is read after an answer.
+abbrev pub settled : Progress → Answered → Progress
+settled p a = settledBy (p .count) (a .place) (finalOf (a .answer))
 
 -- A call is the last that brings something new if it answers the end or a refusal.
-abbrev pub turnBy : Cursor → Answer → Turn Cursor Answer
+abbrev pub turnBy : Progress → Answer → Turn Progress Answer
 turnBy next (clause extra so) = on (clause extra so) next
 turnBy next ended = last ended
 turnBy next (refused r so) = last (refused r so)
 
 module _ (s : List ℕ) (f : Format) (limits : Limits) (room : ℕ) where
   -- One call.
-  unfoldable pub turn : Cursor → Turn Cursor Answer
-  turn c = let a = answerAt s f limits room c in turnBy (settled c a) (a .answer)
+  unfoldable pub turn : Progress → Turn Progress Answer
+  turn p = let a = answerAt s f limits room p in turnBy (settled p a) (a .answer)
 
-  -- All answers from a cursor on, up to the end or the first refusal.
-  unfoldable pub answersFrom : Cursor → List Answer
+  -- All answers to come, up to the end or the first refusal.
+  unfoldable pub answersFrom : Progress → List Answer
   answersFrom = said turn (length s + 2)
 
--- The cursor with which a text's clauses begin.
-abbrev pub begin : ℕ → Cursor
-begin at = cursorAt at 0 final.Open
+-- No clause is read yet.
+abbrev pub begin : ℕ → Progress
+begin at = progress at 0 final.Open
 
 -- What is read of a text.
 pub record Text : Type 0 where

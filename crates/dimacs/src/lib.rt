@@ -198,11 +198,42 @@ pub enum Opening {
     Refused(Refusal),
 }
 
+// What stands for a number that is not there: the end of the text where it may come; no clause; or no literals after a weight or group.
+pub enum Absence {
+    MayEnd,
+    NoClause,
+    NoLiterals,
+}
+
+// What is answered where no clause stands: the end, at its place, or a refusal.
+pub enum Instead {
+    Ended(usize),
+    Refused(Refusal),
+}
+
+// How a clause begins: with literals from a place on, after its weight or group, 0 if the format has neither, and with what it means if no number
+// stands there; or not, with what is answered instead.
+pub enum Start {
+    Literals {
+        extra: u64,
+        place: usize,
+        absence: Absence,
+    },
+    Instead(Instead),
+}
+
 // The answer that later calls repeat, once there is one.
 pub enum Final {
     Open,
     Ended,
     Refused(Refusal),
+}
+
+// How far a text of clauses is read: the next place, the clauses read, and the final answer once there is one.
+pub struct Progress {
+    pub place: usize,
+    pub count: u64,
+    pub last: Final,
 }
 
 // What a solver says of its formula: satisfiable, unsatisfiable, or that it does not know.

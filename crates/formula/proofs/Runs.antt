@@ -1,20 +1,19 @@
 -- What calls come to: each promise has one answer, the calls of a text are its answers, and each clause leaves fewer to come. Assumes nothing.
 use Prim.Native.Nat.{ℕ, suc, _+_, _/_, _≤_, _<_}
 use mathlib.Core.List.{List, [], _∷_, map}
-use mathlib.Core.Option.{Option, some, none}
 use mathlib.Core.Path.{_≡_, refl, ap, sym, _∙_, subst}
 use native.Mathlib.Omega.{arith}
 use lib.ListN.{length}
 use lib.IntN.{ℤ}
 use Rattle.dimacs.specs.Loop.{Turn, on, last}
-use Rattle.dimacs.specs.Names.{ownRoom, formatOf, modeOf}
+use Rattle.dimacs.specs.Names.{ownRoom}
 use Rattle.dimacs.specs.Header.{openingOf, unlimited, limitsOf}
 use Rattle.dimacs.specs.Clauses as def
 use Rattle.dimacs.specs.Texts as texts
 use Rattle.dimacs.specs.declared.Format.{Format}
 use Rattle.dimacs.specs.declared.Mode.{Mode}
 use Rattle.dimacs.specs.declared.Limits.{Limits}
-use Rattle.dimacs.specs.declared.Refusal.{Refusal}
+use Rattle.dimacs.specs.declared.Progress.{Progress}
 use Rattle.dimacs.specs.declared.Opening.{Opening}
 use Rattle.dimacs.specs.declared.Opening.the-variants as opening
 use Rattle.dimacs.specs.declared.Final.{Final}
@@ -27,26 +26,28 @@ use Rattle.clause.specs.declared.Next.{Next}
 use Rattle.clause.specs.declared.Next.the-variants as next
 use Rattle.formula.specs.declared.Cursor.{Cursor}
 use Rattle.formula.specs.declared.Stepped.{Stepped}
-use Rattle.formula.specs.Cursors.{stateOf, cursorOf, openedBy, openedAs, openedByMode, openedByFormat, opened, settledBy, stepOf, Steps}
-use Rattle.formula.specs.Whole.{readToEnd, refusedBy, outcomeBy, outcomeOfText, outcomeAs, outcomeOf, outcomeAt, outcomeFrom, Call, callBy, call, calls, callOf}
+use Rattle.formula.specs.Cursors.{cursorOf, openedBy, openedAs, opened, after, stepOf, Steps}
+use Rattle.formula.specs.declared.Outcome.the-variants as outcome
+use Rattle.formula.specs.Whole.{outcomeBy, outcomeOfText, outcomeIn, outcomeFrom, Call, callBy, call, calls, callOf}
 
 -- Two permitted answers of a call are equal, and so are the buffers after them.
 pub one-step : {s : List ℕ} {c : Cursor} {old n₁ n₂ : List ℤ} {r₁ r₂ : Stepped} → Steps s c old n₁ r₁ → Steps s c old n₂ r₂ → (r₁ ≡ r₂) × (n₁ ≡ n₂)
 one-step p q = (p .answer ∙ sym (q .answer), p .buffer ∙ sym (q .buffer))
 
 -- The calls from a cursor are the answers from it.
-call-carried : (s : List ℕ) (f : Format) (limits : Limits) (room : ℕ) (c : texts.Cursor)
+call-carried : (s : List ℕ) (f : Format) (limits : Limits) (room : ℕ) (c : Progress)
     → call s room (cursorOf f limits c) ≡ carried (cursorOf f limits) callOf (texts.turn s f limits room c)
 unfolding texts.turn
 call-carried s f limits room c = let d = texts.answerAt s f limits room c in go (d .place) (d .answer)
   where
     go : (e : ℕ) (a : def.Answer)
-        → callBy (callOf a) (settledBy (cursorOf f limits c) e (nextOf a)) (nextOf a) ≡ carried (cursorOf f limits) callOf (texts.turnBy (texts.settledBy c e a) a)
+        → callBy (callOf a) (after (cursorOf f limits c) e (nextOf a)) (nextOf a)
+        ≡ carried (cursorOf f limits) callOf (texts.turnBy (texts.settledBy (c .count) e (texts.finalOf a)) a)
     go e (def.clause extra so) = refl
     go e def.ended = refl
     go e (def.refused r so) = refl
 
-pub calls-from : (s : List ℕ) (f : Format) (limits : Limits) (room : ℕ) (c : texts.Cursor)
+pub calls-from : (s : List ℕ) (f : Format) (limits : Limits) (room : ℕ) (c : Progress)
     → calls s room (cursorOf f limits c) ≡ map callOf (texts.answersFrom s f limits room c)
 unfolding calls texts.answersFrom
 calls-from s f limits room c =
@@ -67,44 +68,45 @@ calls-are-answers f m room s = go (openingOf s f)
     go (opening.Header h at) = calls-from s f (limitsOf f m h) room (texts.begin at)
     go (opening.NoHeader at) = calls-from s f unlimited room (texts.begin at)
     go (opening.Refused r) =
-        let c = texts.cursorAt (r .place) 0 (final.Refused r) in
+        let c = texts.progress (r .place) 0 (final.Refused r) in
         calls-from s f unlimited room c ∙ ap (map callOf) (answers-step s f unlimited room c)
 
 -- A call leads on: after a clause the text comes to the same and fewer clauses are to come; any other answer is what it comes to.
-abbrev pub Leads : List ℕ → ℕ → Cursor → Cursor → Next → Type 0
-Leads s room c c′ (next.Clause extra n) = (outcomeFrom s room c ≡ outcomeFrom s room c′) × (toCome s (c′ .place) < toCome s (c .place))
-Leads s room c c′ next.Ended = outcomeFrom s room c ≡ readToEnd s
-Leads s room c c′ (next.Refused r n) = outcomeFrom s room c ≡ refusedBy r
+abbrev pub CallLeads : List ℕ → ℕ → Cursor → Cursor → Next → Type 0
+CallLeads s room c c′ (next.Clause extra n) =
+    (outcomeFrom s room c ≡ outcomeFrom s room c′) × (toCome s (c′ .progress .place) < toCome s (c .progress .place))
+CallLeads s room c c′ next.Ended = outcomeFrom s room c ≡ outcome.Read
+CallLeads s room c c′ (next.Refused r n) = outcomeFrom s room c ≡ outcome.Refused r
 
 leads-at : (s : List ℕ) (room : ℕ) (f : Format) (limits : Limits) (at count : ℕ) (l : Final)
-    → let c = cursorOf f limits (texts.cursorAt at count l) in Leads s room c (stepOf s room c .cursor) (stepOf s room c .answer)
+    → let c = cursorOf f limits (texts.progress at count l) in CallLeads s room c (stepOf s room c .cursor) (stepOf s room c .answer)
 unfolding texts.answerAt texts.turn outcomeBy
 leads-at s room f limits at count final.Open =
     let d = texts.nextClause s f limits room count at in
-    go (d .place) (d .answer) (next-clause-onward s f limits room count at) (ap (outcomeBy s) (answers-step s f limits room here))
+    go (d .place) (d .answer) (next-clause-onward s f limits room count at) (ap outcomeBy (answers-step s f limits room here))
   where
-    here : texts.Cursor
-    here = texts.cursorAt at count final.Open
+    here : Progress
+    here = texts.progress at count final.Open
 
     go : (e : ℕ) (a : def.Answer) → Placed s at e a
-        → outcomeBy s (texts.answersFrom s f limits room here) ≡ outcomeBy s (andOn (texts.turnBy (texts.settledBy here e a) a) (texts.answersFrom s f limits room))
-        → Leads s room (cursorOf f limits here) (settledBy (cursorOf f limits here) e (nextOf a)) (nextOf a)
+        → outcomeBy (texts.answersFrom s f limits room here) ≡ outcomeBy (andOn (texts.turnBy (texts.settledBy count e (texts.finalOf a)) a) (texts.answersFrom s f limits room))
+        → CallLeads s room (cursorOf f limits here) (after (cursorOf f limits here) e (nextOf a)) (nextOf a)
     go e (def.clause extra so) h k = (k, h .fewer)
     go e def.ended h k = k
     go e (def.refused r so) h k = k
 leads-at s room f limits at count final.Ended = refl
 leads-at s room f limits at count (final.Refused r) = refl
 
-pub leads : (s : List ℕ) (room : ℕ) (c : Cursor) → Leads s room c (stepOf s room c .cursor) (stepOf s room c .answer)
-leads s room c = leads-at s room (c .format) (c .limits) (c .place) (c .count) (c .last)
+pub call-leads : (s : List ℕ) (room : ℕ) (c : Cursor) → CallLeads s room c (stepOf s room c .cursor) (stepOf s room c .answer)
+call-leads s room c = leads-at s room (c .format) (c .limits) (c .progress .place) (c .progress .count) (c .progress .last)
 
 -- The same of a call as its contract has it.
 pub steps-lead : (s : List ℕ) (c : Cursor) (old new : List ℤ) (r : Stepped) (room : ℕ) → length old ≡ room → Steps s c old new r
-    → {a : Next} → r .answer ≡ a → Leads s room c (r .cursor) a
+    → {a : Next} → r .answer ≡ a → CallLeads s room c (r .cursor) a
 steps-lead s c old new r room l p {a} g =
-    subst (Leads s room c (r .cursor)) g
-    (subst (λ n. Leads s n c (r .cursor) (r .answer)) l
-    (subst (λ x. Leads s (length old) c (x .cursor) (x .answer)) (sym (p .answer)) (leads s (length old) c)))
+    subst (CallLeads s room c (r .cursor)) g
+    (subst (λ n. CallLeads s n c (r .cursor) (r .answer)) l
+    (subst (λ x. CallLeads s (length old) c (x .cursor) (x .answer)) (sym (p .answer)) (call-leads s (length old) c)))
 
 -- The count of literals of a clause is at most the buffer's length.
 abbrev pub CountFits : ℕ → Next → Type 0
@@ -114,8 +116,8 @@ CountFits room (next.Refused r n) = n ≤ room
 
 pub steps-fit : (s : List ℕ) (c : Cursor) (old new : List ℤ) (r : Stepped) → Steps s c old new r → {a : Next} → r .answer ≡ a → CountFits (length old) a
 steps-fit s c old new r p g =
-    let d = texts.answerAt s (c .format) (c .limits) (length old) (stateOf c) in
-    subst (CountFits (length old)) (sym (ap (λ x. x .answer) (p .answer)) ∙ g) (go (d .answer) (answer-fits s (c .format) (c .limits) (length old) (stateOf c)))
+    let d = texts.answerAt s (c .format) (c .limits) (length old) (c .progress) in
+    subst (CountFits (length old)) (sym (ap (λ x. x .answer) (p .answer)) ∙ g) (go (d .answer) (answer-fits s (c .format) (c .limits) (length old) (c .progress)))
   where
     go : (a : def.Answer) → AnswerFits (length old) a → CountFits (length old) (nextOf a)
     go (def.clause extra so) h = h
@@ -123,24 +125,15 @@ steps-fit s c old new r p g =
     go (def.refused q so) h = h
 
 -- Opening leaves at most (n + 1) / 2 clauses to come.
-pub opened-few : (f m : ℕ) (s : List ℕ) → toCome s (opened f m s .cursor .place) ≤ (length s + 1) / 2
+pub opened-few : (f m : ℕ) (s : List ℕ) → toCome s (opened f m s .cursor .progress .place) ≤ (length s + 1) / 2
 opened-few f m s = omega arith
 
 -- What a text comes to is what its opened cursor comes to.
-pub opened-outcome : (f m : ℕ) (s : List ℕ) → outcomeFrom s ownRoom (opened f m s .cursor) ≡ outcomeOf f m s
-unfolding outcomeOf openedAs texts.text
-opened-outcome f m s = by-format (formatOf f)
+pub opened-outcome : (f : Format) (m : Mode) (s : List ℕ) → outcomeFrom s ownRoom (openedAs f m s .cursor) ≡ outcomeIn f m s
+unfolding outcomeIn openedAs texts.text
+opened-outcome f m s = go (openingOf s f)
   where
-    by-opening : (x : Format) (y : Mode) (o : Opening)
-        → outcomeFrom s ownRoom (openedBy x y o) ≡ outcomeOfText s (texts.textBy x y ownRoom s o .opened) (texts.textBy x y ownRoom s o .answers)
-    by-opening x y (opening.Header h at) = refl
-    by-opening x y (opening.NoHeader at) = refl
-    by-opening x y (opening.Refused r) = refl
-
-    by-mode : (x : Format) (y : Option Mode) → outcomeFrom s ownRoom (openedByMode x y s .cursor) ≡ outcomeAs s (some x) y
-    by-mode x (some y) = by-opening x y (openingOf s x)
-    by-mode x none = refl
-
-    by-format : (x : Option Format) → outcomeFrom s ownRoom (openedByFormat x m s .cursor) ≡ outcomeAs s x (modeOf m)
-    by-format (some x) = by-mode x (modeOf m)
-    by-format none = refl
+    go : (o : Opening) → let t = texts.textBy f m ownRoom s o in outcomeFrom s ownRoom (openedBy f m o) ≡ outcomeOfText (t .opened) (t .answers)
+    go (opening.Header h at) = refl
+    go (opening.NoHeader at) = refl
+    go (opening.Refused r) = refl

@@ -1,12 +1,13 @@
 -- The cursors and answers of the code, by those of the definition.
 use Prim.Native.Nat.{ℕ}
+use mathlib.Core.Bool.{Bool, cond, not, _&&_}
 use mathlib.Core.List.{List}
-use mathlib.Core.Option.{Option, some, none}
 use mathlib.Core.Path.{_≡_}
+use lib.Dec.{eqb, leb}
 use lib.ListN.{length}
 use lib.IntN.{ℤ}
-use Rattle.dimacs.specs.Names.{Reason, callRefusal, formatOf, modeOf}
-use Rattle.dimacs.specs.Header.{openingOf, unlimited, limitsOf}
+use Rattle.dimacs.specs.Names.{Reason, callRefusal, kindOf}
+use Rattle.dimacs.specs.Header.{openingOf}
 use Rattle.dimacs.specs.Buffers.{laid}
 use Rattle.dimacs.specs.Clauses as def
 use Rattle.dimacs.specs.Texts as texts
@@ -17,9 +18,15 @@ use Rattle.dimacs.specs.declared.Limits.{Limits}
 use Rattle.dimacs.specs.declared.Refusal.{Refusal}
 use Rattle.dimacs.specs.declared.Opening.{Opening}
 use Rattle.dimacs.specs.declared.Opening.the-variants as opening
+use Rattle.dimacs.specs.declared.Kind.{Kind}
+use Rattle.dimacs.specs.declared.Kind.the-variants as kind
+use Rattle.dimacs.specs.declared.Absence.{Absence}
+use Rattle.dimacs.specs.declared.Absence.the-variants.{MayEnd, NoClause}
+use Rattle.dimacs.specs.declared.Progress.{Progress}
 use Rattle.dimacs.specs.declared.Final.{Final}
 use Rattle.dimacs.specs.declared.Final.the-variants as final
-use Rattle.clause.specs.Answers.{nextOf, leftBy, answeredOf}
+use Rattle.header.specs.Headed.{limitsAfter}
+use Rattle.clause.specs.Answers.{leftBy, answeredOf}
 use Rattle.clause.specs.declared.Next.{Next}
 use Rattle.clause.specs.declared.Next.the-variants as next
 use Rattle.clause.specs.declared.Answered.{Answered}
@@ -27,19 +34,19 @@ use Rattle.formula.specs.declared.Cursor.{Cursor}
 use Rattle.formula.specs.declared.Opened.{Opened}
 use Rattle.formula.specs.declared.Stepped.{Stepped}
 
--- A cursor of the code is one of the definition, with its format and limits.
-abbrev pub stateOf : Cursor → texts.Cursor
-stateOf c = texts.cursorAt (c .place) (c .count) (c .last)
+-- A cursor by its parts.
+abbrev pub cursorOf : Format → Limits → Progress → Cursor
+cursorOf f limits p = record { progress = p; limits = limits; format = f }
 
--- A cursor of the definition, with a format and limits, is one of the code.
-abbrev pub cursorOf : Format → Limits → texts.Cursor → Cursor
-cursorOf f limits c = record { place = c .place; limits = limits; count = c .count; format = f; last = c .final }
+-- How far a text is read where its clauses begin, by its opening. After a refused header the refusal is repeated.
+abbrev pub begunBy : Opening → Progress
+begunBy (opening.Header h at) = texts.begin at
+begunBy (opening.NoHeader at) = texts.begin at
+begunBy (opening.Refused r) = texts.progress (r .place) 0 (final.Refused r)
 
--- The cursor with which a text's clauses begin, by its opening. After a refused header the refusal is repeated.
+-- The cursor with which a text's clauses begin, by its opening.
 abbrev pub openedBy : Format → Mode → Opening → Cursor
-openedBy f m (opening.Header h at) = cursorOf f (limitsOf f m h) (texts.begin at)
-openedBy f m (opening.NoHeader at) = cursorOf f unlimited (texts.begin at)
-openedBy f m (opening.Refused r) = cursorOf f unlimited (texts.cursorAt (r .place) 0 (final.Refused r))
+openedBy f m o = cursorOf f (limitsAfter f m o) (begunBy o)
 
 -- A text opened in a format and a mode.
 unfoldable pub openedAs : Format → Mode → List ℕ → Opened
@@ -51,37 +58,41 @@ unknown =
     let r : Refusal = callRefusal Reason.formatOrModeUnknown 0 in
     record { opening = opening.Refused r; cursor = openedBy Plain Mode.Strict (opening.Refused r) }
 
--- A text opened in a format, and in a mode if there is one.
-abbrev pub openedByMode : Format → Option Mode → List ℕ → Opened
-openedByMode f (some m) s = openedAs f m s
-openedByMode f none s = unknown
-
--- A text opened in a format, by the number of a mode.
-abbrev pub openedMode : Format → ℕ → List ℕ → Opened
-openedMode f m s = openedByMode f (modeOf m) s
-
--- A text opened in a format if there is one, by the number of a mode.
-abbrev pub openedByFormat : Option Format → ℕ → List ℕ → Opened
-openedByFormat (some f) m s = openedMode f m s
-openedByFormat none m s = unknown
+-- A text opened by what its numbers name. A log is no text of clauses.
+abbrev pub openedKind : Kind → List ℕ → Opened
+openedKind (kind.Clauses f m) s = openedAs f m s
+openedKind (kind.Log m) s = unknown
+openedKind kind.Unknown s = unknown
 
 -- A text opened by numbers.
 abbrev pub opened : ℕ → ℕ → List ℕ → Opened
-opened f m s = openedByFormat (formatOf f) m s
+opened f m s = openedKind (kindOf f m) s
+
+-- The count of clauses is reached, where one applies.
+abbrev pub reached : ℕ → ℕ → Bool
+reached most count = not (eqb most 0) && leb most count
+
+-- Where no count of clauses applies, the text may end before any of them.
+abbrev pub absenceOf : ℕ → Absence
+absenceOf most = cond (eqb most 0) MayEnd NoClause
 
 -- What is answered from a cursor, with room for so many literals.
 abbrev pub answerFrom : List ℕ → ℕ → Cursor → def.Answered
-answerFrom s room c = texts.answerAt s (c .format) (c .limits) room (stateOf c)
+answerFrom s room c = texts.answerAt s (c .format) (c .limits) room (c .progress)
 
--- The cursor after an answer.
-abbrev pub settledBy : Cursor → ℕ → Next → Cursor
-settledBy c at (next.Clause extra n) = cursorOf (c .format) (c .limits) (texts.cursorAt at (texts.oneMore (c .count)) (c .last))
-settledBy c at next.Ended = cursorOf (c .format) (c .limits) (texts.cursorAt at (c .count) final.Ended)
-settledBy c at (next.Refused r n) = cursorOf (c .format) (c .limits) (texts.cursorAt at (c .count) (final.Refused r))
+-- The end and a refusal are final.
+abbrev pub lastOf : Next → Final
+lastOf (next.Clause extra n) = final.Open
+lastOf next.Ended = final.Ended
+lastOf (next.Refused r n) = final.Refused r
+
+-- The cursor after an answer at a place.
+abbrev pub after : Cursor → ℕ → Next → Cursor
+after c at a = cursorOf (c .format) (c .limits) (texts.settledBy (c .progress .count) at (lastOf a))
 
 -- An answer of the code, and the cursor after it.
 abbrev pub settledAs : Cursor → Answered → Stepped
-settledAs c a = record { answer = a .answer; cursor = settledBy c (a .place) (a .answer) }
+settledAs c a = record { answer = a .answer; cursor = after c (a .place) (a .answer) }
 
 -- One call: its answer, and the cursor after it.
 abbrev pub stepOf : List ℕ → ℕ → Cursor → Stepped

@@ -1,19 +1,17 @@
 -- Whole texts: what they come to, and the calls that read them.
 use Prim.Native.Nat.{ℕ, _+_, _≤_, min, suc}
 use mathlib.Core.List.{List, [], _∷_}
-use mathlib.Core.Option.{Option, some, none}
 use mathlib.Core.Path.{_≡_}
 use lib.ListN.{length, drop}
 use lib.IntN.{ℤ}
 use Rattle.dimacs.specs.Loop.{Turn, on, last, said}
 use Rattle.dimacs.specs.Bytes.{isNotStop}
-use Rattle.dimacs.specs.Names.{Reason, numberOf, longestWord, ownRoom, formatOf, modeOf}
+use Rattle.dimacs.specs.Names.{longestWord, ownRoom}
 use Rattle.dimacs.specs.Tokens.{run}
 use Rattle.dimacs.specs.Clauses as def
 use Rattle.dimacs.specs.Texts as texts
 use Rattle.dimacs.specs.declared.Format.{Format}
 use Rattle.dimacs.specs.declared.Mode.{Mode}
-use Rattle.dimacs.specs.declared.Refusal.{Refusal}
 use Rattle.dimacs.specs.declared.Opening.{Opening}
 use Rattle.dimacs.specs.declared.Opening.the-variants as opening
 use Rattle.dimacs.specs.declared.Final.{Final}
@@ -24,7 +22,8 @@ use Rattle.clause.specs.declared.Next.the-variants as next
 use Rattle.formula.specs.declared.Cursor.{Cursor}
 use Rattle.formula.specs.declared.Stepped.{Stepped}
 use Rattle.formula.specs.declared.Outcome.{Outcome}
-use Rattle.formula.specs.Cursors.{stateOf, answerFrom, stepOf}
+use Rattle.formula.specs.declared.Outcome.the-variants as outcome
+use Rattle.formula.specs.Cursors.{answerFrom, stepOf}
 
 -- A word ends at a place within the text: past its first byte and all up to the next stop, or as far as the longest word goes.
 pub record WordEnds (s : List ℕ) (at e : ℕ) : Type 0 where
@@ -32,46 +31,32 @@ pub record WordEnds (s : List ℕ) (at e : ℕ) : Type 0 where
   pub within : e ≤ length s
   pub there : e ≡ at + min longestWord (suc (run isNotStop (drop (at + 1) s)))
 
--- The end is told by number 0 and the length of the text.
-abbrev pub readToEnd : List ℕ → Outcome
-readToEnd s = record { number = 0; place = length s }
-
--- A refusal is told by its number and place.
-abbrev pub refusedBy : Refusal → Outcome
-refusedBy r = record { number = r .number; place = r .place }
-
 -- By the last of a text's answers.
-unfoldable pub outcomeBy : List ℕ → List def.Answer → Outcome
-outcomeBy s [] = readToEnd s
-outcomeBy s (def.clause extra so ∷ l) = outcomeBy s l
-outcomeBy s (def.ended ∷ l) = readToEnd s
-outcomeBy s (def.refused r so ∷ l) = refusedBy r
+unfoldable pub outcomeBy : List def.Answer → Outcome
+outcomeBy [] = outcome.Read
+outcomeBy (def.clause extra so ∷ l) = outcomeBy l
+outcomeBy (def.ended ∷ l) = outcome.Read
+outcomeBy (def.refused r so ∷ l) = outcome.Refused r
 
 -- What a text comes to by its opening and its answers. A refused header is the last answer.
-abbrev pub outcomeOfText : List ℕ → Opening → List def.Answer → Outcome
-outcomeOfText s (opening.Header h at) l = outcomeBy s l
-outcomeOfText s (opening.NoHeader at) l = outcomeBy s l
-outcomeOfText s (opening.Refused r) l = refusedBy r
+abbrev pub outcomeOfText : Opening → List def.Answer → Outcome
+outcomeOfText (opening.Header h at) l = outcomeBy l
+outcomeOfText (opening.NoHeader at) l = outcomeBy l
+outcomeOfText (opening.Refused r) l = outcome.Refused r
 
--- What a text comes to in a format and a mode, if there are such, else refusal 26.
-abbrev pub outcomeAs : List ℕ → Option Format → Option Mode → Outcome
-outcomeAs s (some f) (some m) = let t = texts.text f m ownRoom s in outcomeOfText s (t .opened) (t .answers)
-outcomeAs s (some f) none = record { number = numberOf Reason.formatOrModeUnknown; place = 0 }
-outcomeAs s none m = record { number = numberOf Reason.formatOrModeUnknown; place = 0 }
-
--- What a text comes to by the numbers of a format and a mode.
-unfoldable pub outcomeOf : ℕ → ℕ → List ℕ → Outcome
-outcomeOf f m s = outcomeAs s (formatOf f) (modeOf m)
+-- What a text comes to in a format and a mode.
+unfoldable pub outcomeIn : Format → Mode → List ℕ → Outcome
+outcomeIn f m s = let t = texts.text f m ownRoom s in outcomeOfText (t .opened) (t .answers)
 
 -- What a text comes to from a cursor on.
 abbrev pub outcomeAt : List ℕ → ℕ → Cursor → Final → Outcome
-outcomeAt s room c final.Open = outcomeBy s (texts.answersFrom s (c .format) (c .limits) room (texts.cursorAt (c .place) (c .count) final.Open))
-outcomeAt s room c final.Ended = readToEnd s
-outcomeAt s room c (final.Refused r) = refusedBy r
+outcomeAt s room c final.Open = outcomeBy (texts.answersFrom s (c .format) (c .limits) room (texts.progress (c .progress .place) (c .progress .count) final.Open))
+outcomeAt s room c final.Ended = outcome.Read
+outcomeAt s room c (final.Refused r) = outcome.Refused r
 
 -- The same, by the cursor alone.
 abbrev pub outcomeFrom : List ℕ → ℕ → Cursor → Outcome
-outcomeFrom s room c = outcomeAt s room c (c .last)
+outcomeFrom s room c = outcomeAt s room c (c .progress .last)
 
 -- A call's answer with the literals that it left in the buffer.
 pub record Call : Type 0 where

@@ -4,35 +4,35 @@
 ghost use mathlib.Core.Path.{_≡_};
 ghost use Prim.Native.Nat.{_≤_, _<_};
 ghost use lib.ListN.{length};
-ghost use Rattle.dimacs.specs.Names.{ceiling, ownRoom};
+ghost use Rattle.dimacs.specs.Names.{ownRoom};
 ghost use Rattle.dimacs.specs.Tokens.{stoppedAt};
-ghost use Rattle.dimacs.specs.Header.{unlimited, specified, groupLimit, limitsOf};
-ghost use Rattle.dimacs.specs.Texts.{nextClause, oneMore};
+ghost use Rattle.dimacs.specs.Texts.{progress, nextClause, oneMore, settledBy};
 ghost use Rattle.clause.specs.Answers.{Answers};
-ghost use Rattle.formula.specs.Cursors.{openedAs, openedMode, opened, unknown, answerFrom, settledAs, Steps};
-ghost use Rattle.formula.specs.Whole.{WordEnds, outcomeFrom, outcomeOf};
+ghost use Rattle.formula.specs.Cursors.{cursorOf, openedAs, opened, unknown, answerFrom, reached, absenceOf, lastOf, settledAs, Steps};
+ghost use Rattle.formula.specs.Whole.{WordEnds, outcomeFrom, outcomeIn};
 use clause::Answered;
 use clause::Next;
-use dimacs::CEILING;
+use dimacs::Absence;
 use dimacs::FORMAT_OR_MODE_UNKNOWN;
 use dimacs::Final;
 use dimacs::Format;
-use dimacs::Header;
+use dimacs::Kind;
 use dimacs::LARGEST;
 use dimacs::LONGEST_WORD;
 use dimacs::Limits;
 use dimacs::Mode;
 use dimacs::Opening;
+use dimacs::Progress;
 use dimacs::ROOM;
 use dimacs::Refusal;
+use dimacs::kind_of;
+use dimacs::refuse_call;
 
-// Where a text is read: the next place, the limits, the clauses read, the format, and the final answer once there is one.
+// Where a text is read: how far it is read, the limits of its clauses, and its format.
 pub struct Cursor {
-    pub place: usize,
+    pub progress: Progress,
     pub limits: Limits,
-    pub count: u64,
     pub format: Format,
-    pub last: Final,
 }
 
 // How a text opens, and the cursor with which its clauses begin.
@@ -47,53 +47,18 @@ pub struct Stepped {
     pub cursor: Cursor,
 }
 
-// The limits where no count applies.
-fn no_limits() -> Limits
-    ensures { λ r. ⌜ r ≡ unlimited ⌝ }
+// The cursor of a text of which no clause is read.
+fn begin(format: Format, limits: Limits, place: usize, last: Final) -> Cursor
+    ensures { λ r. ⌜ r ≡ cursorOf format limits (progress place 0 last) ⌝ }
 {
-    Limits {
-        literals: CEILING,
-        groups: LARGEST,
-        clauses: 0,
-    }
-}
-
-fn literal_limit(variables: u64) -> u32
-    requires { ⌜ variables ≤ ceiling ⌝ }
-    ensures { λ r. ⌜ r ≡ specified variables ceiling ⌝ }
-{
-    if variables == 0 {
-        return CEILING;
-    }
-    variables as u32
-}
-
-fn group_limit(format: Format, third: u64) -> u64
-    ensures { λ r. ⌜ r ≡ groupLimit format third ⌝ }
-{
-    match format {
-        Format::Plain => LARGEST,
-        Format::Weighted => LARGEST,
-        Format::Grouped => {
-            if third == 0 {
-                return LARGEST;
-            }
-            third
-        }
-    }
-}
-
-fn limits_of(format: Format, mode: Mode, header: Header) -> Limits
-    requires { ⌜ header .variables ≤ ceiling ⌝ }
-    ensures { λ r. ⌜ r ≡ limitsOf format mode header ⌝ }
-{
-    match mode {
-        Mode::Lenient => no_limits(),
-        Mode::Strict => Limits {
-            literals: literal_limit(header.variables),
-            groups: group_limit(format, header.third),
-            clauses: header.clauses,
+    Cursor {
+        progress: Progress {
+            place,
+            count: 0,
+            last,
         },
+        limits,
+        format,
     }
 }
 
@@ -101,68 +66,39 @@ fn limits_of(format: Format, mode: Mode, header: Header) -> Limits
 pub fn open_as(text: &[u8], format: Format, mode: Mode) -> Opened
     ensures { λ r. ⌜ r ≡ openedAs format mode (now (text .entry)) ⌝ }
 {
-    let opening = header::parse_header(text, format);
+    let headed = header::parse_header(text, format, mode);
+    let opening = headed.opening;
+    let limits = headed.limits;
     match opening {
-        Opening::Header(header, place) => Opened {
+        Opening::Header(_, place) => Opened {
             opening,
-            cursor: Cursor {
-                place,
-                limits: limits_of(format, mode, header),
-                count: 0,
-                format,
-                last: Final::Open,
-            },
+            cursor: begin(format, limits, place, Final::Open),
         },
         Opening::NoHeader(place) => Opened {
             opening,
-            cursor: Cursor {
-                place,
-                limits: no_limits(),
-                count: 0,
-                format,
-                last: Final::Open,
-            },
+            cursor: begin(format, limits, place, Final::Open),
         },
         Opening::Refused(refusal) => Opened {
             opening,
-            cursor: Cursor {
-                place: refusal.place,
-                limits: no_limits(),
-                count: 0,
-                format,
-                last: Final::Refused(refusal),
-            },
+            cursor: begin(format, limits, refusal.place, Final::Refused(refusal)),
         },
     }
 }
 
-// What is answered where a number names no format or no mode.
+// What is answered where the numbers name no text of clauses.
 fn opened_unknown() -> Opened
     ensures { λ r. ⌜ r ≡ unknown ⌝ }
 {
-    let refusal = Refusal {
-        number: FORMAT_OR_MODE_UNKNOWN,
-        place: 0,
-    };
+    let refusal = refuse_call(FORMAT_OR_MODE_UNKNOWN, 0);
+    let limits = header::no_limits();
     Opened {
         opening: Opening::Refused(refusal),
-        cursor: Cursor {
-            place: 0,
-            limits: no_limits(),
-            count: 0,
-            format: Format::Plain,
-            last: Final::Refused(refusal),
-        },
-    }
-}
-
-fn open_mode(text: &[u8], format: Format, mode: u8) -> Opened
-    ensures { λ r. ⌜ r ≡ openedMode format mode (now (text .entry)) ⌝ }
-{
-    match mode {
-        0 => open_as(text, format, Mode::Strict),
-        1 => open_as(text, format, Mode::Lenient),
-        _ => opened_unknown(),
+        cursor: begin(
+            Format::Plain,
+            limits,
+            refusal.place,
+            Final::Refused(refusal),
+        ),
     }
 }
 
@@ -170,11 +106,10 @@ fn open_mode(text: &[u8], format: Format, mode: u8) -> Opened
 pub fn open(text: &[u8], format: u8, mode: u8) -> Opened
     ensures { λ r. ⌜ r ≡ opened format mode (now (text .entry)) ⌝ }
 {
-    match format {
-        0 => open_mode(text, Format::Plain, mode),
-        1 => open_mode(text, Format::Weighted, mode),
-        2 => open_mode(text, Format::Grouped, mode),
-        _ => opened_unknown(),
+    match kind_of(format, mode) {
+        Kind::Clauses(format, mode) => open_as(text, format, mode),
+        Kind::Log(_) => opened_unknown(),
+        Kind::Unknown => opened_unknown(),
     }
 }
 
@@ -188,54 +123,85 @@ fn one_more(count: u64) -> u64
     count
 }
 
+// Whether the count of clauses is reached, where one applies.
+fn reached(most: u64, count: u64) -> bool
+    ensures { λ r. ⌜ r ≡ reached most count ⌝ }
+{
+    if most == 0 {
+        return false;
+    }
+    most <= count
+}
+
+// Where no count of clauses applies, the text may end before any of them.
+fn absence_of(most: u64) -> Absence
+    ensures { λ r. ⌜ r ≡ absenceOf most ⌝ }
+{
+    if most == 0 {
+        return Absence::MayEnd;
+    }
+    Absence::NoClause
+}
+
+// The answer that is final by a call's answer, if it is.
+fn final_of(answer: Next) -> Final
+    ensures { λ r. ⌜ r ≡ lastOf answer ⌝ }
+{
+    match answer {
+        Next::Clause { extra: _, count: _ } => Final::Open,
+        Next::Ended => Final::Ended,
+        Next::Refused { refusal, count: _ } => Final::Refused(refusal),
+    }
+}
+
+// How far a text is read after so many clauses and an answer, at its place: a clause counts.
+fn settled(count: u64, place: usize, last: Final) -> Progress
+    ensures { λ r. ⌜ r ≡ settledBy count place last ⌝ }
+{
+    match last {
+        Final::Open => Progress {
+            place,
+            count: one_more(count),
+            last,
+        },
+        Final::Ended => Progress { place, count, last },
+        Final::Refused(_) => Progress { place, count, last },
+    }
+}
+
 impl Cursor {
     // The next answer while there is no final one.
     fn look(self, text: &[u8], lits: &mut [i32]) -> Answered
-        ensures { λ r. ⌜ Answers (nextClause (now (text .entry)) (self .format) (self .limits) (length (now (lits .entry))) (self .count) (self .place)) (now (lits .entry)) (now (lits .exit)) r ⌝ }
+        ensures { λ r. ⌜ Answers (nextClause (now (text .entry)) (self .format) (self .limits) (length (now (lits .entry))) (self .progress .count) (self .progress .place)) (now (lits .entry)) (now (lits .exit)) r ⌝ }
     {
         let format = self.format;
         let limits = self.limits;
+        let progress = self.progress;
         let most = limits.clauses;
-        let at = token::comments_and_newlines(text, token::skip_whitespace(text, self.place));
-        if most == 0 {
-            return clause::clause_at(text, at, format, limits, true, lits);
+        let at = token::comments_and_newlines(text, token::skip_whitespace(text, progress.place));
+        if reached(most, progress.count) {
+            return clause::no_clause(text, at);
         }
-        if most <= self.count {
-            return clause::no_clause(text, at, true);
-        }
-        clause::clause_at(text, at, format, limits, false, lits)
+        clause::clause_at(text, at, format, limits, absence_of(most), lits)
     }
 
     // The next answer: the final one again, once there is one.
     fn answer(self, text: &[u8], lits: &mut [i32]) -> Answered
         ensures { λ r. ⌜ Answers (answerFrom (now (text .entry)) (length (now (lits .entry))) self) (now (lits .entry)) (now (lits .exit)) r ⌝ }
     {
-        let last = self.last;
+        let progress = self.progress;
+        let place = progress.place;
+        let last = progress.last;
         match last {
             Final::Open => self.look(text, lits),
             Final::Ended => Answered {
                 answer: Next::Ended,
-                place: self.place,
+                place,
             },
             Final::Refused(refusal) => Answered {
                 answer: Next::Refused { refusal, count: 0 },
-                place: self.place,
+                place,
             },
-        }
-    }
-
-    // The cursor at a place, with a count and a final answer.
-    fn goes(self, place: usize, count: u64, last: Final) -> Cursor
-        ensures { λ r. ⌜ r ≡ record { place = place; limits = self .limits; count = count; format = self .format; last = last } ⌝ }
-    {
-        let format = self.format;
-        let limits = self.limits;
-        Cursor {
-            place,
-            limits,
-            count,
-            format,
-            last,
         }
     }
 
@@ -243,22 +209,17 @@ impl Cursor {
     fn settle(self, a: Answered) -> Stepped
         ensures { λ r. ⌜ r ≡ settledAs self a ⌝ }
     {
-        let place = a.place;
+        let format = self.format;
+        let limits = self.limits;
+        let before = self.progress;
         let answer = a.answer;
-        let count = self.count;
-        let last = self.last;
-        match answer {
-            Next::Clause { extra: _, count: _ } => Stepped {
-                answer,
-                cursor: self.goes(place, one_more(count), last),
-            },
-            Next::Ended => Stepped {
-                answer,
-                cursor: self.goes(place, count, Final::Ended),
-            },
-            Next::Refused { refusal, count: _ } => Stepped {
-                answer,
-                cursor: self.goes(place, count, Final::Refused(refusal)),
+        let progress = settled(before.count, a.place, final_of(answer));
+        Stepped {
+            answer,
+            cursor: Cursor {
+                progress,
+                limits,
+                format,
             },
         }
     }
@@ -306,13 +267,14 @@ pub fn stopped_at(text: &[u8], at: usize) -> &[u8]
     &text[at..at]
 }
 
-// What a whole text comes to: the refusal's number and place, or 0 and the text's length where it is read to its end.
-pub struct Outcome {
-    pub number: u8,
-    pub place: usize,
+// What a whole text comes to.
+pub enum Outcome {
+    // It is read to its end.
+    Read,
+    Refused(Refusal),
 }
 
-// The whole text from a cursor on, with room for 1,024 literals in a clause.
+// The whole text from a cursor on, with room for as many literals in a clause as where the caller lends no buffer.
 fn read_on(text: &[u8], from: Cursor) -> Outcome
     ensures { λ r. ⌜ r ≡ outcomeFrom (now (text .entry)) ownRoom from ⌝ }
 {
@@ -324,25 +286,15 @@ fn read_on(text: &[u8], from: Cursor) -> Outcome
         let answer = step.answer;
         match answer {
             Next::Clause { extra: _, count: _ } => {}
-            Next::Ended => {
-                return Outcome {
-                    number: 0,
-                    place: text.len(),
-                };
-            }
-            Next::Refused { refusal, count: _ } => {
-                return Outcome {
-                    number: refusal.number,
-                    place: refusal.place,
-                };
-            }
+            Next::Ended => return Outcome::Read,
+            Next::Refused { refusal, count: _ } => return Outcome::Refused(refusal),
         }
     }
 }
 
-// The whole text by the numbers of a format of clauses and a mode.
-pub fn read_text(text: &[u8], format: u8, mode: u8) -> Outcome
-    ensures { λ r. ⌜ r ≡ outcomeOf format mode (now (text .entry)) ⌝ }
+// The whole text in a format and a mode.
+pub fn read_text(text: &[u8], format: Format, mode: Mode) -> Outcome
+    ensures { λ r. ⌜ r ≡ outcomeIn format mode (now (text .entry)) ⌝ }
 {
-    read_on(text, open(text, format, mode).cursor)
+    read_on(text, open_as(text, format, mode).cursor)
 }

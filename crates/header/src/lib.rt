@@ -1,9 +1,11 @@
-// The opening of a text of clauses: its header, if it has one.
+// The opening of a text of clauses: its header, if it has one, and the limits that the header sets.
 ghost use mathlib.Core.Path.{_≡_};
-ghost use Rattle.dimacs.specs.Names.{numbered};
+ghost use Prim.Native.Nat.{_≤_};
+ghost use Rattle.dimacs.specs.Names.{numbered, ceiling};
 ghost use Rattle.dimacs.specs.Tokens.{word};
 ghost use Rattle.dimacs.specs.declared.Opening.{Opening};
-ghost use Rattle.dimacs.specs.Header.{formatWord, headerOf, headerEnd, thirdThere, thirdCount, clauseCount, variableCount, afterP, openingOf};
+ghost use Rattle.dimacs.specs.Header.{formatWord, headerOf, headerEnd, thirdThere, thirdCount, clauseCount, variableCount, afterP, openingOf, unlimited, specified, groupLimit, limitsOf};
+ghost use Rattle.header.specs.Headed.{headedIn};
 use dimacs::CEILING;
 use dimacs::CLAUSE_COUNT_EXPECTED;
 use dimacs::CLAUSE_COUNT_TOO_BIG;
@@ -13,6 +15,8 @@ use dimacs::Format;
 use dimacs::Header;
 use dimacs::LARGEST;
 use dimacs::LINE_END_EXPECTED;
+use dimacs::Limits;
+use dimacs::Mode;
 use dimacs::Opening;
 use dimacs::THIRD_COUNT_EXPECTED;
 use dimacs::THIRD_COUNT_TOO_BIG;
@@ -105,7 +109,7 @@ fn after_p(text: &[u8], at: usize, format: Format) -> Opening
 }
 
 // How a text opens in a format.
-pub fn parse_header(text: &[u8], format: Format) -> Opening
+fn opening_of(text: &[u8], format: Format) -> Opening
     ensures { λ r. ⌜ r ≡ openingOf (now (text .entry)) format ⌝ }
 {
     let at = token::comments_and_newlines(text, token::skip_whitespace(text, 0));
@@ -114,4 +118,81 @@ pub fn parse_header(text: &[u8], format: Format) -> Opening
         return Opening::NoHeader(at);
     }
     after_p(text, past, format)
+}
+
+// The limits where no count applies.
+pub fn no_limits() -> Limits
+    ensures { λ r. ⌜ r ≡ unlimited ⌝ }
+{
+    Limits {
+        literals: CEILING,
+        groups: LARGEST,
+        clauses: 0,
+    }
+}
+
+fn literal_limit(variables: u64) -> u32
+    requires { ⌜ variables ≤ ceiling ⌝ }
+    ensures { λ r. ⌜ r ≡ specified variables ceiling ⌝ }
+{
+    if variables == 0 {
+        return CEILING;
+    }
+    variables as u32
+}
+
+fn group_limit(format: Format, third: u64) -> u64
+    ensures { λ r. ⌜ r ≡ groupLimit format third ⌝ }
+{
+    match format {
+        Format::Plain => LARGEST,
+        Format::Weighted => LARGEST,
+        Format::Grouped => {
+            if third == 0 {
+                return LARGEST;
+            }
+            third
+        }
+    }
+}
+
+fn limits_of(format: Format, mode: Mode, header: Header) -> Limits
+    requires { ⌜ header .variables ≤ ceiling ⌝ }
+    ensures { λ r. ⌜ r ≡ limitsOf format mode header ⌝ }
+{
+    match mode {
+        Mode::Lenient => no_limits(),
+        Mode::Strict => Limits {
+            literals: literal_limit(header.variables),
+            groups: group_limit(format, header.third),
+            clauses: header.clauses,
+        },
+    }
+}
+
+// How a text opens, and the limits of its clauses.
+pub struct Headed {
+    pub opening: Opening,
+    pub limits: Limits,
+}
+
+// How a text opens in a format, and the limits of its clauses in a mode.
+pub fn parse_header(text: &[u8], format: Format, mode: Mode) -> Headed
+    ensures { λ r. ⌜ r ≡ headedIn format mode (now (text .entry)) ⌝ }
+{
+    let opening = opening_of(text, format);
+    match opening {
+        Opening::Header(header, _) => Headed {
+            opening,
+            limits: limits_of(format, mode, header),
+        },
+        Opening::NoHeader(_) => Headed {
+            opening,
+            limits: no_limits(),
+        },
+        Opening::Refused(_) => Headed {
+            opening,
+            limits: no_limits(),
+        },
+    }
 }

@@ -7,29 +7,30 @@ use lib.Dec.{ltb, eqb}
 use lib.ListN.{length}
 use lib.IntN.{ℤ}
 use borrow.Author.Tests.{ltb-true, ltb-false, ne-eqb}
-use Rattle.dimacs.specs.Names.{ownRoom, modeOf}
-use Rattle.dimacs.specs.Logs.{LogAnswer, accepted, refusedLog}
+use Rattle.dimacs.specs.Names.{ownRoom, kindIn, kindOf}
+use Rattle.dimacs.specs.Logs.{LogAnswer, accepted, refusedLog, log}
+use Rattle.dimacs.specs.declared.Mode.{Mode}
 use Rattle.dimacs.proofs.Tests.{tested}
 use Rattle.log_line.specs.Answers.{logOf}
 use Rattle.log_line.specs.declared.Log.{Log}
 use Rattle.log_line.specs.declared.Log.the-variants.{Accepted, Refused}
-use Rattle.sat_solver_log.specs.Answers.{logBy, Parses}
-use Rattle.formula.specs.Whole.{readToEnd, refusedBy, outcomeOf}
+use Rattle.sat_solver_log.specs.Answers.{Parses}
 use Rattle.formula.specs.declared.Outcome.{Outcome}
-use Rattle.host.specs.Outcomes.{outcomeByLog, outcomeOfLog, outcome}
+use Rattle.formula.specs.declared.Outcome.the-variants as outcome
+use Rattle.host.specs.Outcomes as host
+use Rattle.host.specs.Outcomes.{outcomeByLog, outcomeOfLog}
 
--- What an answer of the log reader tells.
-abbrev pub told : List ℕ → Log → Outcome
-told s (Accepted v n) = readToEnd s
-told s (Refused r n) = refusedBy r
+-- What an answer of the log reader comes to.
+abbrev pub logTold : Log → Outcome
+logTold (Accepted v n) = outcome.Read
+logTold (Refused r n) = outcome.Refused r
 
-pub log-told : (m : ℕ) (s : List ℕ) (old new : List ℤ) (r : Log) → length old ≡ ownRoom → Parses (logBy (modeOf m) s (length old)) old new r
-    → {a : Log} → r ≡ a → told s a ≡ outcomeOfLog m s
+pub log-told : (m : Mode) (s : List ℕ) (old new : List ℤ) (r : Log) → length old ≡ ownRoom → Parses (log s m (length old)) old new r
+    → {a : Log} → r ≡ a → logTold a ≡ outcomeOfLog m s
 unfolding outcomeOfLog
-log-told m s old new r l p g =
-    ap (told s) (sym g ∙ p .answer ∙ ap (λ n. logOf (logBy (modeOf m) s n)) l) ∙ go (logBy (modeOf m) s ownRoom)
+log-told m s old new r l p g = ap logTold (sym g ∙ p .answer ∙ ap (λ n. logOf (log s m n)) l) ∙ go (log s m ownRoom)
   where
-    go : (d : LogAnswer) → told s (logOf d) ≡ outcomeByLog s d
+    go : (d : LogAnswer) → logTold (logOf d) ≡ outcomeByLog d
     go (accepted v so) = refl
     go (refusedLog q so) = refl
 
@@ -40,7 +41,7 @@ same-name n k h =
     (λ t. let b = ltb-true n 255 t in ap (λ x. eqb x k) (omega arith))
     (λ t. let b = ltb-false n 255 t in ne-eqb (min n 255) k (λ e. omega arith) ∙ sym (ne-eqb n k (λ e. omega arith)))
 
-pub outcome-narrowed : (f m : ℕ) (s : List ℕ) → outcome (min f 255) (min m 255) s ≡ outcome f m s
-unfolding outcome outcomeOfLog outcomeOf
+pub outcome-narrowed : (f m : ℕ) (s : List ℕ) → host.outcome (min f 255) (min m 255) s ≡ host.outcome f m s
+unfolding host.outcome kindOf kindIn
 outcome-narrowed f m s =
     rw (same-name f 0 (omega arith), same-name f 1 (omega arith), same-name f 2 (omega arith), same-name f 3 (omega arith), same-name m 0 (omega arith), same-name m 1 (omega arith))

@@ -3,9 +3,13 @@
 // Each takes the numbers of a format and a mode and a byte slice, by the C calling convention. host/latchtwig.h declares them for C, host/rust for Rust.
 ghost use mathlib.Core.Path.{_≡_};
 ghost use Prim.Native.Nat.{min};
-ghost use Rattle.host.specs.Outcomes.{outcomeOfLog, outcome};
-use dimacs::LOG_FORMAT;
+ghost use Rattle.host.specs.Outcomes.{outcomeOfLog, outcome, numberTold, placeTold};
+use dimacs::FORMAT_OR_MODE_UNKNOWN;
+use dimacs::Kind;
+use dimacs::Mode;
 use dimacs::ROOM;
+use dimacs::kind_of;
+use dimacs::refuse_call;
 use formula::Outcome;
 use log_line::Log;
 
@@ -22,23 +26,17 @@ fn narrowed(n: u32) -> u8
     LARGEST_BYTE as u8
 }
 
-// The whole log by the number of a mode, with room for 1,024 literals in all.
-fn read_log(text: &[u8], mode: u8) -> Outcome
+// The whole log in a mode, with room for as many literals in all as where the caller lends no buffer.
+fn read_log(text: &[u8], mode: Mode) -> Outcome
     ensures { λ r. ⌜ r ≡ outcomeOfLog mode (now (text .entry)) ⌝ }
 {
     let mut lits = [0i32; ROOM];
-    match sat_solver_log::parse_log(text, mode, &mut lits) {
+    match sat_solver_log::parse_log_as(text, mode, &mut lits) {
         Log::Accepted {
             verdict: _,
             count: _,
-        } => Outcome {
-            number: 0,
-            place: text.len(),
-        },
-        Log::Refused { refusal, count: _ } => Outcome {
-            number: refusal.number,
-            place: refusal.place,
-        },
+        } => Outcome::Read,
+        Log::Refused { refusal, count: _ } => Outcome::Refused(refusal),
     }
 }
 
@@ -46,10 +44,11 @@ fn read_log(text: &[u8], mode: u8) -> Outcome
 fn read(text: &[u8], format: u8, mode: u8) -> Outcome
     ensures { λ r. ⌜ r ≡ outcome format mode (now (text .entry)) ⌝ }
 {
-    if format == LOG_FORMAT {
-        return read_log(text, mode);
+    match kind_of(format, mode) {
+        Kind::Clauses(format, mode) => formula::read_text(text, format, mode),
+        Kind::Log(mode) => read_log(text, mode),
+        Kind::Unknown => Outcome::Refused(refuse_call(FORMAT_OR_MODE_UNKNOWN, 0)),
     }
-    formula::read_text(text, format, mode)
 }
 
 // The same by any two numbers.
@@ -62,15 +61,21 @@ fn check(text: &[u8], format: u32, mode: u32) -> Outcome
 // The number of the refusal that the text comes to, or 0 if it is read to its end.
 #[no_mangle]
 pub extern "C" fn latchtwig_refusal(format: u32, mode: u32, text: &[u8]) -> u32
-    ensures { λ r. ⌜ r ≡ outcome format mode (now (text .entry)) .number ⌝ }
+    ensures { λ r. ⌜ r ≡ numberTold (outcome format mode (now (text .entry))) ⌝ }
 {
-    check(text, format, mode).number as u32
+    match check(text, format, mode) {
+        Outcome::Read => 0,
+        Outcome::Refused(refusal) => refusal.number as u32,
+    }
 }
 
 // The place of the refusal that the text comes to, or the text's length if it is read to its end.
 #[no_mangle]
 pub extern "C" fn latchtwig_place(format: u32, mode: u32, text: &[u8]) -> u64
-    ensures { λ r. ⌜ r ≡ outcome format mode (now (text .entry)) .place ⌝ }
+    ensures { λ r. ⌜ r ≡ placeTold (now (text .entry)) (outcome format mode (now (text .entry))) ⌝ }
 {
-    check(text, format, mode).place as u64
+    match check(text, format, mode) {
+        Outcome::Read => text.len() as u64,
+        Outcome::Refused(refusal) => refusal.place as u64,
+    }
 }

@@ -1,19 +1,21 @@
 -- The line of a clause, read where it begins. Assumes nothing.
 use Prim.Native.Nat.{ℕ, _+_, _≤_}
 use Prim.Native.Char.{code}
-use mathlib.Core.Bool.{Bool, false}
 use mathlib.Core.List.{List, [], _∷_, _++_, append-assoc, append-nil}
 use mathlib.Core.Path.{_≡_, refl, ap, sym, _∙_}
 use native.Mathlib.Omega.{arith}
 use lib.ListN.{length, getD, length-append}
 use lib.IntN.{ℤ, pos, negsuc}
-use Rattle.dimacs.specs.Names.{Reason, ceiling, largest}
-use Rattle.dimacs.specs.Tokens.{intAt}
+use Rattle.dimacs.specs.Names.{ceiling, largest}
+use Rattle.dimacs.specs.Tokens.{intAt, linebreaks}
 use Rattle.dimacs.specs.Rows.{closes, reads, row}
-use Rattle.dimacs.specs.Clauses.{closed, literals, clause, says, body, owed, plainAt, weightedAt, groupedAt, clauseAt}
+use Rattle.dimacs.specs.Clauses as clauses
+use Rattle.dimacs.specs.Clauses.{closed, literals, clause, says, startAt, finish, clauseAt}
 use Rattle.dimacs.specs.Writing.{digits, signedDigits, lead, items, clauseLine}
 use Rattle.dimacs.specs.declared.Format.{Format}
 use Rattle.dimacs.specs.declared.Format.the-variants.{Plain, Weighted, Grouped}
+use Rattle.dimacs.specs.declared.Absence.{Absence}
+use Rattle.dimacs.specs.declared.Absence.the-variants.{NoLiterals}
 use Rattle.dimacs.specs.declared.Limits.{Limits}
 use Rattle.dimacs.specs.declared.Int.the-variants as int
 use Rattle.dimacs.proofs.Rows.{row-closes, row-takes}
@@ -105,31 +107,32 @@ line-opens f extra so t = rw (line-on f extra so t) (go f)
 
 module _ (s : List ℕ) (limits : Limits) (low : limits .literals ≤ ceiling) (room : ℕ) (extra : ℕ) (so : List ℤ) (t : List ℕ)
     (k : Each (LiteralFits (limits .literals)) so) (few : length so ≤ room) where
-  body-written : (why : Reason) (permitted : Bool) → Ends s (closing so t)
-      → body s limits room extra why permitted (start s (closing so t)) ≡ says (clause extra so) (start s t)
-  unfolding body
-  body-written why permitted h = rw (literals-written s (limits .literals) low t room so k few h, line-written t (line-ends s (limits .literals) low t so h))
+  finish-written : (absence : Absence) → Ends s (closing so t)
+      → let at = start s (closing so t) in finish s extra at absence (literals s (limits .literals) room at) ≡ says (clause extra so) (start s t)
+  unfolding clauses.closing
+  finish-written absence h = rw (literals-written s (limits .literals) low t room so k few h, line-written t (line-ends s (limits .literals) low t so h))
 
-  owed-written : Ends s (closing so t) → owed s limits room extra (start s (closing so t)) ≡ says (clause extra so) (start s t)
-  unfolding owed
-  owed-written h = rw (linebreaks-none (closing so t) (closing-opens so t .bare) h) (body-written Reason.literalsExpected false h)
+  owed-written : Ends s (closing so t)
+      → let at = linebreaks s (start s (closing so t)) in finish s extra at NoLiterals (literals s (limits .literals) room at) ≡ says (clause extra so) (start s t)
+  owed-written h = rw (linebreaks-none (closing so t) (closing-opens so t .bare) h) (finish-written NoLiterals h)
 
-  led : (f : Format) → ExtraFits f limits extra → Ends s (leading f extra (closing so t)) → (endPermitted : Bool)
-      → clauseAt s limits room f endPermitted (start s (leading f extra (closing so t))) ≡ says (clause extra so) (start s t)
-  unfolding clauseAt plainAt weightedAt groupedAt
-  led Plain e h endPermitted =
-      ap (λ x. body s limits room x Reason.clauseExpected endPermitted (start s (closing so t))) (sym e) ∙ body-written Reason.clauseExpected endPermitted h
-  led Weighted e h endPermitted =
+  led : (f : Format) → ExtraFits f limits extra → Ends s (leading f extra (closing so t)) → (absence : Absence)
+      → clauseAt s limits room f absence (start s (leading f extra (closing so t))) ≡ says (clause extra so) (start s t)
+  unfolding clauseAt startAt
+  led Plain e h absence =
+      let at = start s (closing so t) in
+      ap (λ x. finish s x at absence (literals s (limits .literals) room at)) (sym e) ∙ finish-written absence h
+  led Weighted e h absence =
       let u = closing so t in
       rw (uint-written extra (32 ∷ u) h largest (parted so t) e) (owed-written (ends-after (digits extra) 32 u h))
-  led Grouped e h endPermitted =
+  led Grouped e h absence =
       let u = closing so t in
       let k = ends-after (123 ∷ digits extra) 125 (32 ∷ u) h in
       rw (braced-written extra (parted so t) (limits .groups) e h) (owed-written (ends-past (32 ∷ []) u k))
 
 -- The line of a clause is read as that clause.
 pub clause-written : (s : List ℕ) (f : Format) (limits : Limits) (room : ℕ) (c : Clause) (t : List ℕ) → limits .literals ≤ ceiling → ClauseFits f limits room c
-    → Ends s (clauseLine f (c .extra) (c .literals) ++ t) → (endPermitted : Bool)
-    → clauseAt s limits room f endPermitted (start s (clauseLine f (c .extra) (c .literals) ++ t)) ≡ says (answerOf c) (start s t)
+    → Ends s (clauseLine f (c .extra) (c .literals) ++ t) → (absence : Absence)
+    → clauseAt s limits room f absence (start s (clauseLine f (c .extra) (c .literals) ++ t)) ≡ says (answerOf c) (start s t)
 clause-written s f limits room c t low k =
     rw (line-on f (c .extra) (c .literals) t) (led s limits low room (c .extra) (c .literals) t (k .literals) (k .few) f (k .extra))

@@ -1,6 +1,6 @@
 -- The lines of clauses, read one after the other up to the end. Assumes nothing.
 use Prim.Native.Nat.{ℕ, suc, _+_, _≤_}
-use mathlib.Core.Bool.{true, false, cond}
+use mathlib.Core.Bool.{cond}
 use mathlib.Core.List.{List, [], _∷_, _++_, map}
 use mathlib.Core.Path.{_≡_, refl, ap, _∙_}
 use mathlib.Core.Logic.{_⊎_, inl, inr, ⊎-elim}
@@ -10,10 +10,11 @@ use lib.Dec.{leb, eqb}
 use lib.ListN.{length, getD}
 use Rattle.dimacs.specs.Names.{ceiling, largest}
 use Rattle.dimacs.specs.Tokens.{none, unsigned}
-use Rattle.dimacs.specs.Clauses.{Answered, ended, says, absent, noClause, clauseAt}
-use Rattle.dimacs.specs.Texts.{cursorAt, oneMore, nextClause, answerAt, settled, turnBy, turn, answersFrom}
+use Rattle.dimacs.specs.Clauses.{Answered, ended, says, instead, absent, clauseAt}
+use Rattle.dimacs.specs.Texts.{progress, oneMore, nextClause, answerAt, settled, turnBy, turn, answersFrom}
 use Rattle.dimacs.specs.Writing.{clauseLine}
 use Rattle.dimacs.specs.declared.Format.{Format}
+use Rattle.dimacs.specs.declared.Absence.the-variants.{MayEnd, NoClause}
 use Rattle.dimacs.specs.declared.Limits.{Limits}
 use Rattle.dimacs.specs.declared.Final.the-variants as final
 use Rattle.dimacs.proofs.Tests.{chosen}
@@ -31,13 +32,13 @@ module _ (s : List ℕ) (at : ℕ) (h : length s ≤ at) where
   no-number : unsigned s at ≡ none
   no-number = unsigned-none (read-end (read-none s at) h) refl
 
-  end-permitted : noClause s true at ≡ says ended at
+  end-permitted : instead (absent s MayEnd at) ≡ says ended at
   unfolding absent
   end-permitted = rw (le-leb (length s) at h)
 
-  clause-none : (f : Format) (limits : Limits) (room : ℕ) → clauseAt s limits room f true at ≡ says ended at
+  clause-none : (f : Format) (limits : Limits) (room : ℕ) → clauseAt s limits room f MayEnd at ≡ says ended at
   clause-none f limits room =
-      no-clause s limits room f true at (bare-none s limits f at (record { number = no-number; minus = no-byte s at 44 h; brace = no-byte s at 122 h })) ∙ end-permitted
+      no-clause s limits room f MayEnd at (bare-none s limits f at (record { number = no-number; minus = no-byte s at 44 h; brace = no-byte s at 122 h })) ∙ end-permitted
 
 pub lines-open : (f : Format) (cs : List Clause) → Opener (getD (clauseLines f cs) 0 0)
 unfolding clauseLines
@@ -55,8 +56,8 @@ one-more limit count n (inr e) = rw (lt-ltb count largest (omega arith)) (inr (o
 module _ (s : List ℕ) (f : Format) (limits : Limits) (low : limits .literals ≤ ceiling) (room : ℕ) where
   -- By whether a count applies and is reached.
   next-by : (r : List ℕ) (count : ℕ) (a : Answered) → Opener (getD r 0 0) → Ends s r
-      → (limits .clauses ≡ 0 → clauseAt s limits room f true (start s r) ≡ a)
-      → ((limits .clauses ≡ 0 → ⊥) → cond (leb (limits .clauses) count) (noClause s true (start s r)) (clauseAt s limits room f false (start s r)) ≡ a)
+      → (limits .clauses ≡ 0 → clauseAt s limits room f MayEnd (start s r) ≡ a)
+      → ((limits .clauses ≡ 0 → ⊥) → cond (leb (limits .clauses) count) (instead (absent s MayEnd (start s r))) (clauseAt s limits room f NoClause (start s r)) ≡ a)
       → nextClause s f limits room count (start s r) ≡ a
   unfolding nextClause
   next-by r count a o h i j =
@@ -73,24 +74,24 @@ module _ (s : List ℕ) (f : Format) (limits : Limits) (low : limits .literals �
       → nextClause s f limits room count (start s (clauseLine f (c .extra) (c .literals) ++ t)) ≡ says (answerOf c) (start s t)
   next-line c t count m n k h =
       let read = clause-written s f limits room c t low k h in
-      next-by (clauseLine f (c .extra) (c .literals) ++ t) count (says (answerOf c) (start s t)) (line-opens f (c .extra) (c .literals) t) h (λ _. read true)
-      (λ z. rw (lt-leb (limits .clauses) count (⊎-elim (λ e. absurd (z e)) (λ e. omega arith) n)) (read false))
+      next-by (clauseLine f (c .extra) (c .literals) ++ t) count (says (answerOf c) (start s t)) (line-opens f (c .extra) (c .literals) t) h (λ _. read MayEnd)
+      (λ z. rw (lt-leb (limits .clauses) count (⊎-elim (λ e. absurd (z e)) (λ e. omega arith) n)) (read NoClause))
 
   turn-by : (at count : ℕ) (d : Answered) → nextClause s f limits room count at ≡ d
-      → turn s f limits room (cursorAt at count final.Open) ≡ turnBy (settled (cursorAt at count final.Open) d) (d .answer)
+      → turn s f limits room (progress at count final.Open) ≡ turnBy (settled (progress at count final.Open) d) (d .answer)
   unfolding turn answerAt
   turn-by at count d e = rw e
 
   -- The clauses in their order, and the end.
   pub answers-written : (cs : List Clause) (count : ℕ) → Counts (limits .clauses) count (length cs) → Each (ClauseFits f limits room) cs → Ends s (clauseLines f cs)
-      → answersFrom s f limits room (cursorAt (start s (clauseLines f cs)) count final.Open) ≡ map answerOf cs ++ (ended ∷ [])
+      → answersFrom s f limits room (progress (start s (clauseLines f cs)) count final.Open) ≡ map answerOf cs ++ (ended ∷ [])
   unfolding clauseLines
   answers-written [] count n k h =
-      answers-step s f limits room (cursorAt (start s []) count final.Open) ∙ rw (turn-by (start s []) count _ (next-end count n h))
+      answers-step s f limits room (progress (start s []) count final.Open) ∙ rw (turn-by (start s []) count _ (next-end count n h))
   answers-written (c ∷ cs) count n k h =
       let t = clauseLines f cs in
       let at = start s (clauseLine f (c .extra) (c .literals) ++ t) in
-      answers-step s f limits room (cursorAt at count final.Open)
+      answers-step s f limits room (progress at count final.Open)
       ∙ rw (turn-by at count _ (next-line c t count (length cs) n (k .0) h))
       (ap (λ l. answerOf c ∷ l)
       (answers-written cs (oneMore count) (one-more (limits .clauses) count (length cs) n) (k .1) (ends-past (clauseLine f (c .extra) (c .literals)) t h)))

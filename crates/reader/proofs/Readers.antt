@@ -24,8 +24,8 @@ pub one-first : {f m : ℕ} {s : List ℕ} {old n₁ n₂ : List ℤ} {r₁ r₂
 one-first p q = (p .answer ∙ sym (q .answer), p .buffer ∙ sym (q .buffer))
 
 -- A call on the reader of a text, and its place then, are the first call on that text.
-pub first-read : (f m : ℕ) (t : RefT (List ℕ)) {o : Opened} {after : Reader} {old new : List ℤ} {a : Next} {at : ℕ} → o ≡ openedOn f m t → Reads (o .reader) old new after a → at ≡ after .cursor .place
+pub first-read : (f m : ℕ) (t : RefT (List ℕ)) {o : Opened} {after : Reader} {old new : List ℤ} {a : Next} {at : ℕ} → o ≡ openedOn f m t → Reads (o .reader) old new after a → at ≡ after .cursor .progress .place
     → ReadsFirst f m (now t) old new (record { opening = o .opening; answer = a; place = at })
 first-read f m t {after = after} {old = old} {new = new} {a = a} made p e =
     let k : Steps (now t) (opened f m (now t) .cursor) old new (record { answer = a; cursor = after .cursor }) = subst (λ (o : Opened). Reads (o .reader) old new after a) made p .step in
-    record { answer = λ i. record { opening = made i .opening; answer = k .answer i .answer; place = (e ∙ ap (λ (z : Stepped). z .cursor .place) (k .answer)) i }; buffer = k .buffer }
+    record { answer = λ i. record { opening = made i .opening; answer = k .answer i .answer; place = (e ∙ ap (λ (z : Stepped). z .cursor .progress .place) (k .answer)) i }; buffer = k .buffer }

@@ -27,7 +27,7 @@ abbrev pub firstOf : ℕ → ℕ → List ℕ → ℕ → First
 firstOf f m s room =
     let o = opened f m s in
     let step = stepOf s room (o .cursor) in
-    record { opening = o .opening; answer = step .answer; place = step .cursor .place }
+    record { opening = o .opening; answer = step .answer; place = step .cursor .progress .place }
 
 -- The whole promise of the first call on a text.
 pub record ReadsFirst (f m : ℕ) (s : List ℕ) (old new : List ℤ) (r : First) : Type 0 where

@@ -47,16 +47,16 @@ impl<'a> Reader<'a> {
 
     // The next place.
     pub fn place(self) -> usize
-        ensures { λ r. ⌜ r ≡ self .entry .cursor .place ⌝ }
+        ensures { λ r. ⌜ r ≡ self .entry .cursor .progress .place ⌝ }
     {
-        self.cursor.place
+        self.cursor.progress.place
     }
 
     // The word the reader stopped at, as a part of its text: empty at a line end or the end of the text.
     pub fn stopped_at(self) -> &'a [u8]
-        ensures { λ r. ⌜ now r ≡ stoppedAt (now (self .entry .text)) (self .entry .cursor .place) ⌝ }
+        ensures { λ r. ⌜ now r ≡ stoppedAt (now (self .entry .text)) (self .entry .cursor .progress .place) ⌝ }
     {
-        formula::stopped_at(self.text, self.cursor.place)
+        formula::stopped_at(self.text, self.cursor.progress.place)
     }
 }
 

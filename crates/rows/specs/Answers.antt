@@ -1,4 +1,5 @@
 -- A row of the code by that of the definition, and what the lent buffer holds after it.
+use Prim.Native.Nat.{ℕ}
 use mathlib.Core.List.{List}
 use mathlib.Core.Path.{_≡_}
 use lib.ListN.{length}
@@ -18,3 +19,7 @@ rowOf (def.stops r so) = Stops r (length so)
 pub record Reads (d : def.Row) (old new : List ℤ) (r : Row) : Type 0 where
   pub row : r ≡ rowOf d
   pub buffer : new ≡ laid (def.readBy d) old
+
+-- An answer that tells by their count which literals the buffer holds: it is the same for any that are so many.
+abbrev pub Counted : {A : Type 0} → ℕ → (List ℤ → A) → A → Type 0
+Counted n f r = (so : List ℤ) → length so ≡ n → r ≡ f so

@@ -14,7 +14,7 @@ use Rattle.dimacs.specs.declared.Mode.{Mode}
 use Rattle.dimacs.proofs.Tests.{tested, chosen}
 use Rattle.dimacs.proofs.Clauses.{AnswerFits}
 use Rattle.dimacs.proofs.Texts.{answer-fits}
-use Rattle.formula.specs.Cursors.{stateOf, answerFrom, openedAs, Steps}
+use Rattle.formula.specs.Cursors.{answerFrom, openedAs, Steps}
 use Rattle.formula.specs.declared.Cursor.{Cursor}
 use Rattle.formula.specs.declared.Opened.{Opened}
 use Rattle.formula.specs.declared.Stepped.{Stepped}
@@ -53,7 +53,7 @@ reading-served s old new e p q = rw e (record { answer = q ∙ ap stepServed (p 
 pub serving-fits : (s : List ℕ) (room : ℕ) (x : Stage) → length (literalsIn (serving s room x .said)) ≤ room
 unfolding serving
 serving-fits s room (stage.Fresh f m) = omega arith
-serving-fits s room (stage.Reading c) = go (answerFrom s room c .answer) (answer-fits s (c .format) (c .limits) room (stateOf c))
+serving-fits s room (stage.Reading c) = go (answerFrom s room c .answer) (answer-fits s (c .format) (c .limits) room (c .progress))
   where
     go : (a : def.Answer) → AnswerFits room a → length (leftBy a) ≤ room
     go (def.clause extra so) h = h

@@ -8,7 +8,7 @@ use dimacs::Format;
 use dimacs::Mode;
 use dimacs::Opening;
 use dimacs::PART_OUTSIDE_AREA;
-use dimacs::Refusal;
+use dimacs::refuse_call;
 use formula::Cursor;
 use formula::Opened;
 use formula::Stepped;
@@ -114,10 +114,7 @@ pub fn serve(stage: Stage, start: usize, length: usize, area: &[u8], lits: &mut 
         let end = start + length;
         return read(stage, &area[start..end], lits);
     }
-    let refusal = Refusal {
-        number: PART_OUTSIDE_AREA,
-        place: 0,
-    };
+    let refusal = refuse_call(PART_OUTSIDE_AREA, 0);
     Served {
         said: Said::Next(Next::Refused { refusal, count: 0 }),
         goes: Goes::Over,

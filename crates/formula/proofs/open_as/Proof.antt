@@ -1,6 +1,6 @@
 -- `formula::open_as` meets its contract, by how the text opens. Assumes nothing.
-use mathlib.Core.Path.{sym, _∙_, subst}
-use Rattle.dimacs.proofs.Texts.{Opens, opening-opens}
+use mathlib.Core.Path.{sym, ap, _∙_}
+use Rattle.header.specs.Headed.{headedIn}
 use Rattle.formula.specs.Cursors.{openedAs}
 use borrow.Author.Needs.{needs}
 use Rattle.formula.proofs.open_as.Statement.{statement}
@@ -12,38 +12,53 @@ parse-header-requires c κs = search needs
 enum-known-opening : tie.Need-enum-known-opening
 enum-known-opening c = search needs
 
-limits-of-requires : tie.Need-limits-of-requires
-limits-of-requires c κs = subst (Opens _) (sym (c .before .before .before .parse-header .ensures) ∙ c .before .opening .given .1) (opening-opens _ _) .1
+begin-requires : tie.Need-begin-requires
+begin-requires c κs = search needs
 
 enum-known-opening-2 : tie.Need-enum-known-opening-2
 enum-known-opening-2 c = search needs
 
-no-limits-requires : tie.Need-no-limits-requires
-no-limits-requires c κs = search needs
+begin-requires-2 : tie.Need-begin-requires-2
+begin-requires-2 c κs = search needs
 
 enum-known-opening-3 : tie.Need-enum-known-opening-3
 enum-known-opening-3 c = search needs
 
-no-limits-requires-2 : tie.Need-no-limits-requires-2
-no-limits-requires-2 c κs = search needs
+begin-requires-3 : tie.Need-begin-requires-3
+begin-requires-3 c κs = search needs
 
 returns : tie.Need-returns
-unfolding openedAs
-returns c = let e = sym (c .before .before .before .before .parse-header .ensures) ∙ c .before .before .opening .given .1 in
-    let l = c .limits-of .ensures in
-    rw (e, l)
+unfolding openedAs headedIn
+returns c =
+    let told = c .before .before in
+    let headed = told .before .before .before in
+    let h = headed .parse-header .ensures in
+    let e = sym (ap (λ x. x .opening) h) ∙ told .opening .given .1 in
+    let b = c .begin .ensures in
+    let l = ap (λ x. x .limits) h in
+    rw (b, l, e)
 
 returns-2 : tie.Need-returns-2
-unfolding openedAs
-returns-2 c = let e = sym (c .before .before .before .before .parse-header .ensures) ∙ c .before .before .opening2 .given .1 in
-    let l = c .no-limits .ensures in
-    rw (e, l)
+unfolding openedAs headedIn
+returns-2 c =
+    let told = c .before .before in
+    let headed = told .before .before .before in
+    let h = headed .parse-header .ensures in
+    let e = sym (ap (λ x. x .opening) h) ∙ told .opening2 .given .1 in
+    let b = c .begin2 .ensures in
+    let l = ap (λ x. x .limits) h in
+    rw (b, l, e)
 
 returns-3 : tie.Need-returns-3
-unfolding openedAs
-returns-3 c = let e = sym (c .before .before .before .before .parse-header .ensures) ∙ c .before .before .opening3 .given .1 in
-    let l = c .no-limits2 .ensures in
-    rw (e, l)
+unfolding openedAs headedIn
+returns-3 c =
+    let told = c .before .before in
+    let headed = told .before .before .before in
+    let h = headed .parse-header .ensures in
+    let e = sym (ap (λ x. x .opening) h) ∙ told .opening3 .given .1 in
+    let b = c .begin3 .ensures in
+    let l = ap (λ x. x .limits) h in
+    rw (b, l, e)
 
 pub open-as-spec : {M : Type 1} → statement M
 open-as-spec =
@@ -51,11 +66,11 @@ open-as-spec =
     (tie.spec
     parse-header-requires
     enum-known-opening
-    limits-of-requires
+    begin-requires
     enum-known-opening-2
-    no-limits-requires
+    begin-requires-2
     enum-known-opening-3
-    no-limits-requires-2
+    begin-requires-3
     returns
     returns-2
     returns-3)

@@ -7,14 +7,14 @@ use borrow.Author.Needs.{needs}
 use Rattle.formula.proofs.read_text.Statement.{statement}
 use Rattle.formula.proofs.read_text.Tie as tie
 
-open-requires : tie.Need-open-requires
-open-requires c κs = search needs
+open-as-requires : tie.Need-open-as-requires
+open-as-requires c κs = search needs
 
 read-on-requires : tie.Need-read-on-requires
 read-on-requires c κs = search needs
 
 returns : tie.Need-returns
-returns c = c .read-on .ensures ∙ ap (λ o. outcomeFrom (c .before .before .before .args .text .now) ownRoom (o .cursor)) (c .before .«open» .ensures) ∙ opened-outcome _ _ _
+returns c = c .read-on .ensures ∙ ap (λ o. outcomeFrom (c .before .before .before .args .text .now) ownRoom (o .cursor)) (c .before .open-as .ensures) ∙ opened-outcome _ _ _
 
 pub read-text-spec : {M : Type 1} → statement M
-read-text-spec = tie.close (tie.spec open-requires read-on-requires returns)
+read-text-spec = tie.close (tie.spec open-as-requires read-on-requires returns)

@@ -1,47 +1,71 @@
--- `header::parse_header` meets its contract: the word `p` stands, or it does not. Assumes nothing.
-use mathlib.Core.Path.{_≡_, sym, ap, _∙_}
-use borrow.Author.Tests.{eq-eqb, ne-eqb}
-use Rattle.dimacs.specs.Tokens.{lines}
-use Rattle.dimacs.specs.Header.{openingOf}
+-- `header::parse_header` meets its contract, by how the text opens. Assumes nothing.
+use mathlib.Core.Path.{sym, _∙_, subst}
+use Rattle.dimacs.proofs.Texts.{Opens, opening-opens}
+use Rattle.header.specs.Headed.{headedIn}
 use borrow.Author.Needs.{needs}
 use Rattle.header.proofs.parse_header.Statement.{statement}
 use Rattle.header.proofs.parse_header.Tie as tie
 
-skip-whitespace-requires : tie.Need-skip-whitespace-requires
-skip-whitespace-requires c κs = search needs
+opening-of-requires : tie.Need-opening-of-requires
+opening-of-requires c κs = search needs
 
-comments-and-newlines-requires : tie.Need-comments-and-newlines-requires
-comments-and-newlines-requires c κs = search needs
+enum-known-opening : tie.Need-enum-known-opening
+enum-known-opening c = search needs
 
-slice-aggregate-word : tie.Need-slice-aggregate-word
-slice-aggregate-word c = search needs
+limits-of-requires : tie.Need-limits-of-requires
+limits-of-requires c κs =
+    let headed = c .before in
+    subst (Opens _) (sym (headed .before .before .opening-of .ensures) ∙ headed .opening .given .1) (opening-opens _ _) .1
 
-word-requires : tie.Need-word-requires
-word-requires c κs = search needs
+enum-told : tie.Need-enum-told
+enum-told c = search needs
+
+no-limits-requires : tie.Need-no-limits-requires
+no-limits-requires c κs = search needs
+
+enum-told-2 : tie.Need-enum-told-2
+enum-told-2 c = search needs
+
+no-limits-requires-2 : tie.Need-no-limits-requires-2
+no-limits-requires-2 c κs = search needs
 
 returns : tie.Need-returns
-unfolding openingOf
-returns c = let a = c .before .before .before .comments-and-newlines .ensures ∙ ap (lines _) (c .before .before .before .before .skip-whitespace .ensures) in
-    let q = c .before .word .ensures in
-    rw (sym a, sym q, eq-eqb _ _ (c .if1 .taken))
-
-after-p-requires : tie.Need-after-p-requires
-after-p-requires c κs = search needs
+unfolding headedIn
+returns c =
+    let told = c .before .before in
+    let e = sym (told .before .before .opening-of .ensures) ∙ told .opening .given .1 in
+    let l = c .limits-of .ensures in
+    rw (e, l)
 
 returns-2 : tie.Need-returns-2
-unfolding openingOf
-returns-2 c = let a = c .before .before .before .before .comments-and-newlines .ensures ∙ ap (lines _) (c .before .before .before .before .before .skip-whitespace .ensures) in
-    let q = c .before .before .word .ensures in
-    rw (sym a, sym q, ne-eqb _ _ (c .before .if1 .left)) (c .after-p .ensures)
+unfolding headedIn
+returns-2 c =
+    let told = c .before in
+    let o = told .before .before .opening-of .ensures in
+    let e = told .enum-told .given .1 in
+    let l = c .no-limits .ensures in
+    rw (sym o, e, l)
+
+returns-3 : tie.Need-returns-3
+unfolding headedIn
+returns-3 c =
+    let told = c .before in
+    let o = told .before .before .opening-of .ensures in
+    let e = told .enum-told2 .given .1 in
+    let l = c .no-limits2 .ensures in
+    rw (sym o, e, l)
 
 pub parse-header-spec : {M : Type 1} → statement M
 parse-header-spec =
     tie.close
     (tie.spec
-    skip-whitespace-requires
-    comments-and-newlines-requires
-    slice-aggregate-word
-    word-requires
+    opening-of-requires
+    enum-known-opening
+    limits-of-requires
+    enum-told
+    no-limits-requires
+    enum-told-2
+    no-limits-requires-2
     returns
-    after-p-requires
-    returns-2)
+    returns-2
+    returns-3)

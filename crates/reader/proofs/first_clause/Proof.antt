@@ -99,7 +99,7 @@ walk 𝓤 H A W mem run C Λ fm known-open known-next known-place κs qs bounds 
     puts ! (of-opd ! (whole-of ! 24 refl)) 8 refl (typed after _ after-is .0) $
     move ! (0 ∷ 4 ∷ []) $ fjoin ! $ move ! (1 ∷ 4 ∷ []) $ join ! $
     calls-by ! fm place.ended (place.clauses 𝓤 H A mem run) known-place (((κ, tt), (q, tt), tt, (after, tt), (readerVal α after ∷ [], tt)), tt) (vint w64) (uint-tells w64) refl (id⊢ 𝓤 _)
-    (λ p ws. p ≡ after .cursor .place) (λ p ws. id⊢ 𝓤 _) (and-then ! (whole-of ! 5 refl) (no-more !)) (λ p ps stands place-is.
+    (λ p ws. p ≡ after .cursor .progress .place) (λ p ws. id⊢ 𝓤 _) (and-then ! (whole-of ! 5 refl) (no-more !)) (λ p ps stands place-is.
     let first : First = record { opening = o .opening; answer = c; place = p } in
     let first-is : Is O.the-row first (LL.val O.the-type O′.the-laws first ∷ []) = LL.owes O.the-type O′.the-laws first (opening-is, (answer-is, (place-is, tt))) in
     -- [the place's; text's token; …; lits's token; lits's last list; …; text's; _14; …; _13; …; _12; …; _11; …; _10; …; _9; …; _8; …; _7; …; _6; …; _5; …; _4; …; _3; …; _2; …; _1; …; _0; …]

@@ -29,10 +29,18 @@ same-length : tie.Need-same-length
 same-length c = search needs
 
 returns : tie.Need-returns
-returns c = part-served _ _ _ _ _ _ _ (sym (c .before .before .before .before .before .within .ensures) ∙ c .before .before .before .before .if1 .taken) (c .before .read .ensures)
+returns c =
+    let read = c .before in
+    let inside = read .before .before .before in
+    part-served _ _ _ _ _ _ _ (sym (inside .before .within .ensures) ∙ inside .if1 .taken) (read .read .ensures)
+
+refuse-call-requires : tie.Need-refuse-call-requires
+refuse-call-requires c κs = search needs
 
 returns-2 : tie.Need-returns-2
-returns-2 c = part-refused _ _ _ _ _ (sym (c .before .within .ensures) ∙ c .if1 .left)
+returns-2 c =
+    let asked = c .before .before in
+    rw (c .refuse-call .ensures) (part-refused _ _ _ _ _ (sym (asked .within .ensures) ∙ c .before .if1 .left))
 
 pub serve-spec : {M : Type 1} → statement M
-serve-spec = tie.close (tie.spec within-requires add-end sub-read part-read-start part-read-end read-requires same-length returns returns-2)
+serve-spec = tie.close (tie.spec within-requires add-end sub-read part-read-start part-read-end read-requires same-length returns refuse-call-requires returns-2)

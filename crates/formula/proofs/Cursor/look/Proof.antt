@@ -1,9 +1,7 @@
--- `formula::Cursor::look` meets its contract: a clause may come, or may not, or must. Assumes nothing.
-use mathlib.Core.Path.{ap, _∙_}
-use borrow.Author.Tests.{eq-eqb, ne-eqb, le-leb, lt-leb}
+-- `formula::Cursor::look` meets its contract, by whether the count of clauses is reached. Assumes nothing.
+use mathlib.Core.Path.{ap, sym, _∙_}
 use Rattle.dimacs.specs.Tokens.{lines}
-use Rattle.dimacs.specs.Texts.{nextClause}
-use Rattle.clause.proofs.Bodies.{no-clause-at}
+use Rattle.formula.proofs.Looks.{looks-reached, looks-open}
 use borrow.Author.Needs.{needs}
 use Rattle.formula.proofs.Cursor.look.Statement.{statement}
 use Rattle.formula.proofs.Cursor.look.Tie as tie
@@ -14,35 +12,34 @@ skip-whitespace-requires c κs = search needs
 comments-and-newlines-requires : tie.Need-comments-and-newlines-requires
 comments-and-newlines-requires c κs = search needs
 
+reached-requires : tie.Need-reached-requires
+reached-requires c κs = search needs
+
+no-clause-requires : tie.Need-no-clause-requires
+no-clause-requires c κs = search needs
+
+returns : tie.Need-returns
+returns c =
+    let asked = c .before .before in
+    let lines-are = asked .before .comments-and-newlines .ensures ∙ ap (lines _) (asked .before .before .skip-whitespace .ensures) in
+    looks-reached _ _ _ _ _ _ lines-are (sym (asked .reached .ensures) ∙ c .before .if1 .taken) (c .no-clause .ensures)
+
+absence-of-requires : tie.Need-absence-of-requires
+absence-of-requires c κs = search needs
+
 clause-at-requires : tie.Need-clause-at-requires
 clause-at-requires c κs = search needs
 
 same-length : tie.Need-same-length
 same-length c = search needs
 
-returns : tie.Need-returns
-unfolding nextClause
-returns c = let a = c .before .before .before .before .comments-and-newlines .ensures ∙ ap (lines _) (c .before .before .before .before .before .skip-whitespace .ensures) in
-    rw (eq-eqb _ 0 (c .before .before .before .if1 .taken)) (rw a at (c .before .clause-at .ensures))
-
-no-clause-requires : tie.Need-no-clause-requires
-no-clause-requires c κs = search needs
-
 returns-2 : tie.Need-returns-2
-unfolding nextClause
-returns-2 c = let a = c .before .before .before .before .comments-and-newlines .ensures ∙ ap (lines _) (c .before .before .before .before .before .skip-whitespace .ensures) in
-    rw (ne-eqb _ 0 (c .before .before .before .if1 .left), le-leb _ _ (c .before .if2 .taken)) (no-clause-at _ _ _ _ (rw a at (c .no-clause .ensures)))
-
-clause-at-requires-2 : tie.Need-clause-at-requires-2
-clause-at-requires-2 c κs = search needs
-
-same-length-2 : tie.Need-same-length-2
-same-length-2 c = search needs
-
-returns-3 : tie.Need-returns-3
-unfolding nextClause
-returns-3 c = let a = c .before .before .before .before .before .before .comments-and-newlines .ensures ∙ ap (lines _) (c .before .before .before .before .before .before .before .skip-whitespace .ensures) in
-    rw (ne-eqb _ 0 (c .before .before .before .before .before .if1 .left), lt-leb _ _ (c .before .before .before .if2 .left)) (rw a at (c .before .clause-at2 .ensures))
+returns-2 c =
+    let read = c .before in
+    let absence = read .before .before in
+    let asked = absence .before .before in
+    let lines-are = asked .before .comments-and-newlines .ensures ∙ ap (lines _) (asked .before .before .skip-whitespace .ensures) in
+    looks-open _ _ _ _ _ _ lines-are (sym (asked .reached .ensures) ∙ absence .before .if1 .left) (absence .absence-of .ensures) (read .clause-at .ensures)
 
 pub look-spec : {M : Type 1} → statement M
 look-spec =
@@ -50,11 +47,10 @@ look-spec =
     (tie.spec
     skip-whitespace-requires
     comments-and-newlines-requires
+    reached-requires
+    no-clause-requires
+    returns
+    absence-of-requires
     clause-at-requires
     same-length
-    returns
-    no-clause-requires
-    returns-2
-    clause-at-requires-2
-    same-length-2
-    returns-3)
+    returns-2)

@@ -15,7 +15,10 @@ same-length : tie.Need-same-length
 same-length c = search needs
 
 returns : tie.Need-returns
-returns c = record { answer = c .settle .ensures ∙ ap (settledAs _) (c .before .before .answer .ensures .answer); buffer = c .before .before .answer .ensures .buffer }
+returns c =
+    let answered = c .before .before in
+    let start = answered .before .before .before in
+    record { answer = c .settle .ensures ∙ ap (settledAs (start .args .self)) (answered .answer .ensures .answer); buffer = answered .answer .ensures .buffer }
 
 pub next-clause-spec : {M : Type 1} → statement M
 next-clause-spec = tie.close (tie.spec answer-requires settle-requires same-length returns)

@@ -22,13 +22,13 @@ walk 𝓤 H A W mem run C Λ κs qs bounds a g are =
     let d : Reader = a .0 in
     let mach : Val = readerVal α d in
     let wt = LL.lawful (T.the-type α) (T′.the-laws α) 𝓤 H A W .typed d (mach ∷ []) (are .0) .0 in
-    let fits : d .cursor .place < 2 ^ 64 = wt .1 .1 .0 .0 .fits in
+    let fits : d .cursor .progress .place < 2 ^ 64 = wt .1 .1 .0 .0 .0 .fits in
     qed W ((‵ (flft (κs .0) (qs .0)) ⊛ ‵ ftrue) ∷ ‵ (owns (T.the-row α ∷ []) (d, tt) (mach ∷ [], tt)) ∷ []) ∵
     enters ! C Λ code.function (mach ∷ []) _ (wt, tt) (λ bs.
-    puts ! (of-opd ! (load ! (from ! (fld ! refl (fld ! refl (stop !)))) (look-in ! 0 (sub ! 0 refl (sub ! 1 refl (whole !)))))) 2 refl (tt, record { fits = fits }) $
+    puts ! (of-opd ! (load ! (from ! (fld ! refl (fld ! refl (fld ! refl (stop !))))) (look-in ! 0 (sub ! 0 refl (sub ! 0 refl (sub ! 1 refl (whole !))))))) 2 refl (tt, record { fits = fits }) $
     returns ! (look ! 2 refl) $ leaves ! 0 (_ ∷ _ ∷ []) _ refl $
-    ends ! f.ended (f.clauses 𝓤 H A mem run) params ((κs, qs, bounds, a, (mach ∷ [], tt)), g) (vint w64 (d .cursor .place)) (d .cursor .place) (tt, tt) (tt, tt) $ says ! refl $
-    frame ! $ frame ! $ owned ! usize (Is usize) (uint-makes 𝓤 H A W w64) (d .cursor .place) _ (refl, fits) $ done !)
+    ends ! f.ended (f.clauses 𝓤 H A mem run) params ((κs, qs, bounds, a, (mach ∷ [], tt)), g) (vint w64 (d .cursor .progress .place)) (d .cursor .progress .place) (tt, tt) (tt, tt) $ says ! refl $
+    frame ! $ frame ! $ owned ! usize (Is usize) (uint-makes 𝓤 H A W w64) (d .cursor .progress .place) _ (refl, fits) $ done !)
 
 pub place-spec : {M : Type 1} → stated.statement M
 unfolding code.routine

@@ -30,12 +30,12 @@ walk 𝓤 H A W mem run C Λ fm known κs qs bounds a g are =
     qed W ((‵ (flft (κs .0) (qs .0)) ⊛ ‵ ftrue) ∷ ‵ (owns (T.the-row α ∷ []) (d, tt) (mach ∷ [], tt)) ∷ []) ∵
     enters ! C Λ code.function (mach ∷ []) _ (wt, tt) (λ bs.
     puts ! (of-opd ! (field-of ! 4 refl (sub ! 0 refl (whole !)))) 2 refl (tt, wt .1 .0) $
-    puts ! (of-opd ! (load ! (from ! (fld ! refl (fld ! refl (stop !)))) (look-in ! 4 (sub ! 0 refl (sub ! 1 refl (whole !)))))) 0 refl (tt, wt .1 .1 .0 .0) $
+    puts ! (of-opd ! (load ! (from ! (fld ! refl (fld ! refl (fld ! refl (stop !))))) (look-in ! 4 (sub ! 0 refl (sub ! 0 refl (sub ! 1 refl (whole !))))))) 0 refl (tt, wt .1 .1 .0 .0 .0) $
     -- [_3; …; _2; …; _1; …; _0; …; the token; what the reader owns]
     move ! (9 ∷ []) $ fsplit ! $ use1 W (‵ (Text α (d .text)) ⊛ ‵ (Own α d)) (text-out α 𝓤 H A W d) $ split ! $
-    nothing ! $ owned ! usize (Is usize) (uint-makes 𝓤 H A W w64) (d .cursor .place) (vint w64 (d .cursor .place) ∷ []) (refl, wt .1 .1 .0 .0 .fits) $ fjoin ! $ move ! (1 ∷ 0 ∷ []) $ fjoin ! $ move ! (11 ∷ 0 ∷ []) $
-    calls-by ! fm word.ended (word.clauses 𝓤 H A mem run) known ((κs, qs, tt, (d .text, (d .cursor .place, tt)), (textVal (d .text) ∷ [], (vint w64 (d .cursor .place) ∷ [], tt))), tt) textVal (shr-slice-tells (named 0) (κs .0) u8) refl (id⊢ 𝓤 _)
-    (λ r ws. now r ≡ stoppedAt (now (d .text)) (d .cursor .place)) (λ r ws. id⊢ 𝓤 _)
+    nothing ! $ owned ! usize (Is usize) (uint-makes 𝓤 H A W w64) (d .cursor .progress .place) (vint w64 (d .cursor .progress .place) ∷ []) (refl, wt .1 .1 .0 .0 .0 .fits) $ fjoin ! $ move ! (1 ∷ 0 ∷ []) $ fjoin ! $ move ! (11 ∷ 0 ∷ []) $
+    calls-by ! fm word.ended (word.clauses 𝓤 H A mem run) known ((κs, qs, tt, (d .text, (d .cursor .progress .place, tt)), (textVal (d .text) ∷ [], (vint w64 (d .cursor .progress .place) ∷ [], tt))), tt) textVal (shr-slice-tells (named 0) (κs .0) u8) refl (id⊢ 𝓤 _)
+    (λ r ws. now r ≡ stoppedAt (now (d .text)) (d .cursor .progress .place)) (λ r ws. id⊢ 𝓤 _)
     (and-then ! (whole-of ! 5 refl) (and-then ! (whole-of ! 3 refl) (no-more !))) (λ r ws e is.
     -- [the word; the token; …; what the reader owns; …; _3; …; _2; …; _1; …; _0; …]
     lands-in ! 11 refl (shr-slice-lawful 𝓤 H A W (named 0) (κs .0) u8 .typed r _ is .0) $

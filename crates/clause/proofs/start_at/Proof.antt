@@ -1,0 +1,53 @@
+-- `clause::start_at` meets its contract, by the format. Assumes nothing.
+use Rattle.dimacs.specs.Clauses.{startAt}
+use borrow.Author.Needs.{needs}
+use Rattle.clause.proofs.start_at.Statement.{statement}
+use Rattle.clause.proofs.start_at.Tie as tie
+
+enum-told : tie.Need-enum-told
+enum-told c = search needs
+
+enum-told-2 : tie.Need-enum-told-2
+enum-told-2 c = search needs
+
+uint-requires : tie.Need-uint-requires
+uint-requires c κs = search needs
+
+start-by-requires : tie.Need-start-by-requires
+start-by-requires c κs = search needs
+
+enum-told-3 : tie.Need-enum-told-3
+enum-told-3 c = search needs
+
+braced-uint-requires : tie.Need-braced-uint-requires
+braced-uint-requires c κs = search needs
+
+start-by-requires-2 : tie.Need-start-by-requires-2
+start-by-requires-2 c κs = search needs
+
+returns : tie.Need-returns
+unfolding startAt
+returns c = let f = c .enum-told .given .1 in rw f
+
+returns-2 : tie.Need-returns-2
+unfolding startAt
+returns-2 c = let f = c .before .before .enum-told2 .given .1 in let u = c .before .uint .ensures in rw f (rw u at (c .start-by .ensures))
+
+returns-3 : tie.Need-returns-3
+unfolding startAt
+returns-3 c = let f = c .before .before .enum-told3 .given .1 in let u = c .before .braced-uint .ensures in rw f (rw u at (c .start-by2 .ensures))
+
+pub start-at-spec : {M : Type 1} → statement M
+start-at-spec =
+    tie.close
+    (tie.spec
+    enum-told
+    enum-told-2
+    uint-requires
+    start-by-requires
+    enum-told-3
+    braced-uint-requires
+    start-by-requires-2
+    returns
+    returns-2
+    returns-3)

@@ -1,0 +1,45 @@
+-- `clause::start_by` meets its contract, by the weight or group. Assumes nothing.
+use borrow.Author.Needs.{needs}
+use Rattle.clause.proofs.start_by.Statement.{statement}
+use Rattle.clause.proofs.start_by.Tie as tie
+
+enum-told : tie.Need-enum-told
+enum-told c = search needs
+
+absent-requires : tie.Need-absent-requires
+absent-requires c κs = search needs
+
+enum-told-2 : tie.Need-enum-told-2
+enum-told-2 c = search needs
+
+refuse-requires : tie.Need-refuse-requires
+refuse-requires c κs = search needs
+
+enum-known-mark : tie.Need-enum-known-mark
+enum-known-mark c = search needs
+
+non-terminating-linebreaks-requires : tie.Need-non-terminating-linebreaks-requires
+non-terminating-linebreaks-requires c κs = search needs
+
+returns : tie.Need-returns
+returns c = let m = c .before .enum-told .given .1 in let a = c .absent .ensures in rw (m, a)
+
+returns-2 : tie.Need-returns-2
+returns-2 c = let m = c .before .enum-told2 .given .1 in let r = c .refuse .ensures in rw (m, r)
+
+returns-3 : tie.Need-returns-3
+returns-3 c = let m = c .before .before .mark .given .1 in let l = c .non-terminating-linebreaks .ensures in rw (m, l)
+
+pub start-by-spec : {M : Type 1} → statement M
+start-by-spec =
+    tie.close
+    (tie.spec
+    enum-told
+    absent-requires
+    enum-told-2
+    refuse-requires
+    enum-known-mark
+    non-terminating-linebreaks-requires
+    returns
+    returns-2
+    returns-3)

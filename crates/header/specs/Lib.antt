@@ -1,0 +1,2 @@
+-- What opening a text answers.
+pub mod Headed
