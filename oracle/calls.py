@@ -8,12 +8,14 @@ Usage: calls.py limits >FRAMES
 one byte short, exact and longer. `random` gives COUNT calls (one in a thousand with many literals).
 """
 
+import pathlib
 import random
-import struct
 import sys
 
-FRAME = struct.Struct("<BBIQQQI")
-HEADER, CLAUSE = range(2)
+sys.path.append(str(pathlib.Path(__file__).resolve().parent.parent / "tools"))
+import frames
+from frames import CLAUSE, HEADER
+
 FORMATS = range(3)
 
 CEILING = 2**31 - 1
@@ -27,17 +29,10 @@ LITERALS = [sign * size for size in (1, 9, 10, 99, 100, 10**9 - 1, 10**9, CEILIN
 BAD = [0, LOWEST]
 
 
-def frame(format, kind, length, numbers, lits=()):
-    return FRAME.pack(format, kind, length, *numbers, len(lits)) + struct.pack(f"<{len(lits)}i", *lits)
-
-
 def shown(path):
     """Each call of a file of frames in words; of many literals the first."""
-    with open(path, "rb") as file:
-        while head := file.read(FRAME.size):
-            format, kind, length, *numbers, count = FRAME.unpack(head)
-            lits = struct.unpack(f"<{count}i", file.read(4 * count).ljust(4 * count, b"\0"))
-            yield f"format {format}, kind {kind}, output {length}, numbers {numbers}, {count} literals {list(lits[:8])}"
+    for format, kind, length, numbers, lits in frames.calls(path):
+        yield f"format {format}, kind {kind}, output {length}, numbers {numbers}, {len(lits)} literals {list(lits[:8])}"
 
 
 def long_line(format, kind, numbers, lits):
@@ -53,7 +48,7 @@ def limits():
     def around(format, kind, numbers, lits=()):
         exact = long_line(format, kind, numbers, lits)
         for length in exact - 1, exact, exact + 7:
-            yield frame(format, kind, length, numbers, lits)
+            yield frames.call(format, kind, length, numbers, lits)
 
     for format in FORMATS:
         for place in range(3):
@@ -69,32 +64,32 @@ def limits():
         # What is judged first, with an output that is long enough and with none.
         for length in 0, 200:
             for count in CEILING, CEILING + 1:
-                yield frame(format, HEADER, length, [count, 0, 0])
+                yield frames.call(format, HEADER, length, [count, 0, 0])
             for bad in BAD:
                 for lits in [bad], [1, bad, 2], [1, 2, bad], [-1, bad, 0, LOWEST]:
-                    yield frame(format, CLAUSE, length, [7, 0, 0], lits)
+                    yield frames.call(format, CLAUSE, length, [7, 0, 0], lits)
         # What a header does not look at, and a plain clause.
-        yield frame(format, HEADER, 200, [1, 2, 3], [0, LOWEST])
-        yield frame(format, CLAUSE, 200, [2**64 - 1, 2**64 - 1, 2**64 - 1], [1])
+        yield frames.call(format, HEADER, 200, [1, 2, 3], [0, LOWEST])
+        yield frames.call(format, CLAUSE, 200, [2**64 - 1, 2**64 - 1, 2**64 - 1], [1])
         # Lengths that count as the longest, and none.
         for length in 0, 1, 2, LONGEST_OUTPUT, LONGEST_OUTPUT + 1, 2**32 - 1:
-            yield frame(format, CLAUSE, length, [7, 0, 0])
+            yield frames.call(format, CLAUSE, length, [7, 0, 0])
     for format, kind in (3, HEADER), (3, CLAUSE), (255, CLAUSE), (0, 2), (2, 255), (4, 4):
-        yield frame(format, kind, 200, [CEILING + 1, 0, 0], [0])
+        yield frames.call(format, kind, 200, [CEILING + 1, 0, 0], [0])
     # The most literals, and one more.
-    yield frame(0, CLAUSE, 2 * MOST_LITERALS + 1, [0, 0, 0], [1] * MOST_LITERALS)
-    yield frame(0, CLAUSE, 2 * MOST_LITERALS + 2, [0, 0, 0], [1] * MOST_LITERALS)
-    yield frame(3, CLAUSE, 200, [0, 0, 0], [1] * (MOST_LITERALS + 1))
-    yield frame(0, CLAUSE, 200, [0, 0, 0], [1])
+    yield frames.call(0, CLAUSE, 2 * MOST_LITERALS + 1, [0, 0, 0], [1] * MOST_LITERALS)
+    yield frames.call(0, CLAUSE, 2 * MOST_LITERALS + 2, [0, 0, 0], [1] * MOST_LITERALS)
+    yield frames.call(3, CLAUSE, 200, [0, 0, 0], [1] * (MOST_LITERALS + 1))
+    yield frames.call(0, CLAUSE, 200, [0, 0, 0], [1])
     # An input that ends within a frame.
-    yield frame(0, CLAUSE, 200, [0, 0, 0], [1, 2])[:-1]
+    yield frames.call(0, CLAUSE, 200, [0, 0, 0], [1, 2])[:-1]
 
 
 def longest():
     """Lines as long as the longest output, and one byte longer."""
     for last in 1, -1:
         for length in LONGEST_OUTPUT - 1, LONGEST_OUTPUT, LONGEST_OUTPUT + 1, 2**32 - 1:
-            yield frame(0, CLAUSE, length, [0, 0, 0], [-CEILING] * (LONGEST_OUTPUT // 12) + [last])
+            yield frames.call(0, CLAUSE, length, [0, 0, 0], [-CEILING] * (LONGEST_OUTPUT // 12) + [last])
 
 
 def some(count, seed):
@@ -129,7 +124,7 @@ def some(count, seed):
         length = draw.choice((exact - 1, exact, exact + 1, exact + draw.randrange(300), draw.randrange(exact + 1), draw.choice((0, LONGEST_OUTPUT, 2**32 - 1))))
         if draw.random() < 0.01:
             format, kind = draw.choice(((3, kind), (draw.randrange(256), kind), (format, 2), (format, draw.randrange(256))))
-        yield frame(format, kind, length, numbers, lits)
+        yield frames.call(format, kind, length, numbers, lits)
 
 
 def main():

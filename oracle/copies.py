@@ -8,11 +8,14 @@ both modes, with room for 1,024 literals.
 """
 
 import os
+import pathlib
 import subprocess
 import sys
 
 import calls
-from framed import FRAME
+
+sys.path.append(str(pathlib.Path(__file__).resolve().parent.parent / "tools"))
+import frames
 
 PLAIN, WEIGHTED, GROUPED = FORMATS = range(3)
 CEILING = 2**31 - 1
@@ -44,9 +47,9 @@ here = os.path.dirname(os.path.abspath(__file__))
 oracle = os.path.join(os.environ.get("CARGO_TARGET_DIR", os.path.join(here, "target")), "release", "oracle")
 
 
-def answers(frames, *arguments):
+def answers(given, *arguments):
     """What the oracle says of each frame, as bytes."""
-    said = subprocess.run([oracle, *arguments], input=b"".join(frames), stdout=subprocess.PIPE, check=True).stdout
+    said = subprocess.run([oracle, *arguments], input=b"".join(given), stdout=subprocess.PIPE, check=True).stdout
     return [answer.split(b"\n", 1)[1] for answer in said.split(b"case ")[1:]]
 
 
@@ -58,9 +61,9 @@ def line(answer):
 
 
 for format, header, clauses in FORMULAS:
-    frames = [calls.frame(format, calls.HEADER, calls.LONGEST_OUTPUT, header)] if header else []
-    frames += [calls.frame(format, calls.CLAUSE, calls.LONGEST_OUTPUT, (extra, 0, 0), lits) for extra, lits in clauses]
-    text = b"".join(map(line, answers(frames, "written")))
-    strict, lenient = answers(FRAME.pack(format, mode, 1024, len(text)) + text for mode in (0, 1))
+    lines = [frames.call(format, frames.HEADER, calls.LONGEST_OUTPUT, header)] if header else []
+    lines += [frames.call(format, frames.CLAUSE, calls.LONGEST_OUTPUT, (extra, 0, 0), lits) for extra, lits in clauses]
+    text = b"".join(map(line, answers(lines, "written")))
+    strict, lenient = answers(frames.case(format, mode, 1024, text) for mode in (0, 1))
     name = (b"plain", b"weighted", b"grouped")[format]
     sys.stdout.buffer.write(b"%s %d bytes\n%sstrict\n%slenient\n%s" % (name, len(text), text, strict, lenient))

@@ -7,9 +7,11 @@ Prints the number of differing cases, then the one with the shortest text and bo
 """
 
 import itertools
+import pathlib
 import sys
 
-from framed import answers, frames
+sys.path.append(str(pathlib.Path(__file__).resolve().parent.parent / "tools"))
+import frames
 
 
 def shown(text):
@@ -25,8 +27,8 @@ def main():
         sys.exit(__doc__)
     count = 0
     smallest = None
-    said = itertools.zip_longest(answers(sys.argv[2]), answers(sys.argv[3]), fillvalue=[b"nothing\n"])
-    cases = itertools.zip_longest(frames(sys.argv[1]), said)
+    said = itertools.zip_longest(frames.answers(sys.argv[2]), frames.answers(sys.argv[3]), fillvalue=[b"nothing\n"])
+    cases = itertools.zip_longest(frames.cases(sys.argv[1]), said)
     for number, (frame, (expected, given)) in enumerate(cases):
         if expected != given:
             count += 1

@@ -10,9 +10,11 @@ a formula and three of a log.
 """
 
 import itertools
+import pathlib
 import sys
 
-from framed import FRAME
+sys.path.append(str(pathlib.Path(__file__).resolve().parent.parent / "tools"))
+import frames
 
 CEILING = 2147483647
 LARGEST = 18446744073709551615
@@ -42,8 +44,7 @@ LINES = {
 
 
 def write(format, mode, room, text):
-    text = text.encode()
-    sys.stdout.buffer.write(FRAME.pack(format, mode, room, len(text)) + text)
+    sys.stdout.buffer.write(frames.case(format, mode, room, text.encode()))
 
 
 for mode in 0, 1:

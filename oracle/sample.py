@@ -13,10 +13,12 @@ that stands anywhere in the order of a checksum. The same files always give the 
 """
 
 import os
+import pathlib
 import sys
 import zlib
 
-from framed import FRAME, answers, frames
+sys.path.append(str(pathlib.Path(__file__).resolve().parent.parent / "tools"))
+import frames
 
 # A kind keeps so many candidates in either order.
 KEPT = 400
@@ -83,7 +85,7 @@ def main():
     wanted = int(sys.argv[4]) if len(sys.argv) == 5 else 3000
 
     kinds = {}
-    for (format, mode, room, text), lines in zip(frames(sys.argv[1]), answers(sys.argv[2])):
+    for (format, mode, room, text), lines in zip(frames.cases(sys.argv[1]), frames.answers(sys.argv[2])):
         if text is not None and len(text) <= LONGEST:
             key = kind(format, mode, text, lines)
             kinds.setdefault(key, Kind()).add((format, mode, room, text, b"".join(lines)))
@@ -104,7 +106,7 @@ def main():
     os.makedirs(sys.argv[3], exist_ok=True)
     with open(os.path.join(sys.argv[3], "stdin"), "wb") as given:
         for format, mode, room, text, _ in chosen:
-            given.write(FRAME.pack(format, mode, room, len(text)) + text)
+            given.write(frames.case(format, mode, room, text))
     with open(os.path.join(sys.argv[3], "stdout"), "wb") as said:
         for number, (*_, lines) in enumerate(chosen):
             said.write(b"case %d\n" % number + lines)

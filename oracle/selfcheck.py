@@ -9,11 +9,12 @@ Usage: selfcheck.py [PROGRAM [WRITER]]   (by default the oracle as cargo builds 
 """
 
 import os
-import struct
+import pathlib
 import subprocess
 import sys
 
-import calls
+sys.path.append(str(pathlib.Path(__file__).resolve().parent.parent / "tools"))
+import frames
 
 PLAIN, WEIGHTED, GROUPED, LOG = range(4)
 STRICT, LENIENT = range(2)
@@ -164,16 +165,16 @@ case(b"", NONE, "end")
 CALLS = []
 
 
-def call(answer, numbers=(0, 0, 0), lits=(), format=PLAIN, kind=calls.CLAUSE, length=100):
+def call(answer, numbers=(0, 0, 0), lits=(), format=PLAIN, kind=frames.CLAUSE, length=100):
     """One call of a writer, and the line written or the refusal's words."""
     said = f"written {len(answer)} {answer.hex()}" if isinstance(answer, bytes) else answer
-    CALLS.append((calls.frame(format, kind, length, numbers, lits), said))
+    CALLS.append((frames.call(format, kind, length, numbers, lits), said))
 
 
 # The writers: document 01's bytes, and its refusals in their order.
-call(b"p cnf 3 2\n", (3, 2, 9), kind=calls.HEADER)
-call(b"p wcnf 0 10 18446744073709551615\n", (0, 10, 2**64 - 1), format=WEIGHTED, kind=calls.HEADER)
-call(b"p gcnf 2147483647 99 100\n", (2**31 - 1, 99, 100), format=GROUPED, kind=calls.HEADER)
+call(b"p cnf 3 2\n", (3, 2, 9), kind=frames.HEADER)
+call(b"p wcnf 0 10 18446744073709551615\n", (0, 10, 2**64 - 1), format=WEIGHTED, kind=frames.HEADER)
+call(b"p gcnf 2147483647 99 100\n", (2**31 - 1, 99, 100), format=GROUPED, kind=frames.HEADER)
 call(b"1 -3 0\n", (5, 0, 0), (1, -3))
 call(b"0\n")
 call(b"9223372036854775808 2147483647 -2147483647 0\n", (2**63, 0, 0), (2**31 - 1, 1 - 2**31), format=WEIGHTED)
@@ -182,8 +183,8 @@ call(b"{0} -9 0\n", lits=(-9,), format=GROUPED)
 call(b"{18446744073709551615} 0\n", (2**64 - 1, 0, 0), format=GROUPED)
 call(b"1 0\n", lits=(1,), length=4)
 call("refused 28 0 0", lits=(1,), length=3)
-call("refused 28 0 0", (1, 1, 0), kind=calls.HEADER, length=9)
-call("refused 10 0 0", (2**31, 0, 0), kind=calls.HEADER, length=0)
+call("refused 28 0 0", (1, 1, 0), kind=frames.HEADER, length=9)
+call("refused 10 0 0", (2**31, 0, 0), kind=frames.HEADER, length=0)
 call("refused 27 1 0", lits=(1, 0, -(2**31)), length=0)
 call("refused 27 0 0", lits=(-(2**31),))
 call("refused 26 0 0", format=LOG)
@@ -192,12 +193,8 @@ call("long", lits=(1,) * 8193)
 call(b"0\n", length=2**32 - 1)
 
 
-def frame(format, mode, room, text):
-    return struct.pack("<BBII", format, mode, room, len(text)) + text
-
-
-def run(command, frames):
-    return subprocess.run(command, input=frames, stdout=subprocess.PIPE, check=True).stdout
+def run(command, given):
+    return subprocess.run(command, input=given, stdout=subprocess.PIPE, check=True).stdout
 
 
 def main():
@@ -216,8 +213,8 @@ def main():
             wrong += 1
             print(f"{what}\n  expected {expected}\n  got      {got}")
 
-    frames = b"".join(frame(*one[:4]) for one in CASES)
-    answers = run([program], frames).decode().split("case ")[1:]
+    given = b"".join(frames.case(*one[:4]) for one in CASES)
+    answers = run([program], given).decode().split("case ")[1:]
     check("the number of cases", len(answers), len(CASES))
     for number, ((*_, lines), answer) in enumerate(zip(CASES, answers)):
         format, mode, room, text, _ = CASES[number]
@@ -225,13 +222,13 @@ def main():
         check(shown, answer.splitlines(), [str(number), *lines])
 
     # A frame that standard input cuts off.
-    whole = frame(PLAIN, STRICT, 4096, b"1 0\n")
+    whole = frames.case(PLAIN, STRICT, 4096, b"1 0\n")
     said = b"case 0\nheader none\nclause 1\nend\n"
     check("nothing at all", run([program], b""), b"")
     check("a whole frame", run([program], whole), said)
     for length in range(1, len(whole)):
         check(f"{length} bytes of a frame", run([program], whole + whole[:length]), said + b"case 1\ncut\n")
-    long = frame(PLAIN, STRICT, 4096, b"\n" * 65537)
+    long = frames.case(PLAIN, STRICT, 4096, b"\n" * 65537)
     check("a long text cut off", run([program], long[:-1]), b"case 0\nlong\ncut\n")
 
     # Calls of the writers, and one that standard input cuts off.
@@ -239,7 +236,7 @@ def main():
     check("the number of calls", len(answers), len(CALLS))
     for number, ((asked, line), answer) in enumerate(zip(CALLS, answers)):
         check(f"call {asked[:80].hex()}", answer.splitlines(), [str(number), line])
-    whole = calls.frame(PLAIN, calls.CLAUSE, 100, (0, 0, 0), (1, 2))
+    whole = frames.call(PLAIN, frames.CLAUSE, 100, (0, 0, 0), (1, 2))
     for length in range(len(whole)):
         said = b"case 0\ncut\n" if length else b""
         check(f"{length} bytes of a call", run(writer, whole[:length]), said)

@@ -17,9 +17,11 @@ import sys
 import tempfile
 
 import calls
-from framed import frames
 
 ROOT = pathlib.Path(__file__).resolve().parent.parent
+sys.path.append(str(ROOT / "tools"))
+import frames
+
 CRATES = ["token", "numeral", "header", "rows", "clause", "formula", "log_line", "sat_solver_log", "writer"]
 
 
@@ -42,7 +44,7 @@ def edited(crate, edit):
 
 
 def texts(path):
-    for format, mode, room, text in frames(path):
+    for format, mode, room, text in frames.cases(path):
         yield f"format {format}, mode {mode}, room {room}, {text!r}"
 
 

@@ -9,42 +9,21 @@ is the host's answer unless it is refusal 16, and those cases are left out. No s
 Two kinds are added, which document 01 answers by itself: numbers that name no format or no mode, those above a byte too; and clauses and logs of 1,023 to 1,026
 literals.
 """
-import struct
 import sys
 
-STORED = struct.Struct("<BBII")
-FRAME = struct.Struct("<III")
+import frames
+
 ROOM = 1024
 BUFFER_FULL = 16
 UNKNOWN = 26
 
 
-def frames(path):
-    """The format, mode and text of each stored case."""
-    with open(path, "rb") as file:
-        while head := file.read(STORED.size):
-            format, mode, _, length = STORED.unpack(head)
-            text = file.read(length)
-            assert len(text) == length <= ROOM
-            yield format, mode, text
-
-
-def answers(path):
-    """The last line of each stored answer, which says how the text came out."""
-    last = None
-    with open(path, "rb") as file:
-        for line in file:
-            if line.startswith(b"case "):
-                if last is not None:
-                    yield last
-            last = line.split()
-    yield last
-
-
 def stored(where):
-    """Each stored case that is judged with any room from its own on, with its answer; and how many are not."""
+    """Each stored case that is judged with any room from its own on, with its answer; and how many are not. The last line of an answer says how the text came out."""
     cases, left_out = [], 0
-    for (format, mode, text), last in zip(frames(f"{where}/stdin"), answers(f"{where}/stdout"), strict=True):
+    for (format, mode, _, text), lines in zip(frames.cases(f"{where}/stdin"), frames.answers(f"{where}/stdout"), strict=True):
+        assert text is not None and len(text) <= ROOM
+        last = lines[-1].split()
         if last[0] != b"refused":
             assert last[0] in (b"end", b"literals")
             cases.append((format, mode, text, 0, len(text)))
@@ -93,7 +72,7 @@ def main():
     added = [*unknown(), *full()]
     with open(f"{target}/stdin", "wb") as given, open(f"{target}/stdout", "w") as said:
         for format, mode, text, number, place in cases + added:
-            given.write(FRAME.pack(format, mode, len(text)) + text)
+            given.write(frames.host_case(format, mode, text))
             said.write(f"{number} {place}\n")
     print(f"{len(cases)} stored cases, {left_out} left out for their room, {len(added)} added")
 

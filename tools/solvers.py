@@ -18,9 +18,10 @@ end the refused lines are told, each with the command that prints it. The exit s
 import pathlib
 import random
 import shutil
-import struct
 import subprocess
 import sys
+
+import frames
 
 ROOT = pathlib.Path(__file__).resolve().parent.parent
 COMMANDS = [["cadical"], ["cadical", "-v"], ["picosat"], ["picosat", "-v"], ["cryptominisat5"], ["cryptominisat5", "--verb", "3"]]
@@ -32,7 +33,7 @@ ROOM = 4096
 
 def answers(*cases):
     """What `reader_cases` says of each (format, mode, text), line by line."""
-    given = b"".join(struct.pack("<BBII", format, mode, ROOM, len(text)) + text for format, mode, text in cases)
+    given = b"".join(frames.case(format, mode, ROOM, text) for format, mode, text in cases)
     said = subprocess.run([ROOT / "run", "reader_cases"], input=given, stdout=subprocess.PIPE, check=True).stdout.decode()
     return [case.splitlines()[1:] for case in said.split("case ")[1:]]
 

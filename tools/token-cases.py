@@ -6,8 +6,9 @@ or the code and the same slip here are unlikely to meet.
 """
 import itertools
 import re
-import struct
 import sys
+
+import frames
 
 CEILING = 2**31 - 1
 STOPS = b"\t\n\r "
@@ -146,10 +147,10 @@ def cases():
 def main():
     where = sys.argv[1]
     n = 0
-    with open(f"{where}/stdin", "wb") as frames, open(f"{where}/stdout", "w") as lines_out:
+    with open(f"{where}/stdin", "wb") as given, open(f"{where}/stdout", "w") as said:
         for s, at, limit in cases():
-            frames.write(bytes([len(s)]) + s + struct.pack("<QQ", at, limit))
-            lines_out.write(answers(s, at, limit))
+            given.write(frames.token_case(s, at, limit))
+            said.write(answers(s, at, limit))
             n += 1
     print(f"{n} cases")
 

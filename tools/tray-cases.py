@@ -15,9 +15,10 @@ import collections
 import pathlib
 import random
 import re
-import struct
 import subprocess
 import sys
+
+import frames
 
 ROOT = pathlib.Path(__file__).resolve().parent.parent
 PLAIN, WEIGHTED, GROUPED = range(3)
@@ -26,9 +27,7 @@ CEILING = 2**31 - 1
 LARGEST = 2**64 - 1
 PLACES = 32
 ROOM = 1024
-AREA = 65536
-PUT, TURN, WITHDRAW, CHANGE = range(4)
-FIELDS = {PUT: "<BBQQ", TURN: "<II", WITHDRAW: "<Q", CHANGE: "<IB"}
+AREA = frames.LONGEST
 
 # ---- the reader
 
@@ -243,28 +242,10 @@ class Tray:
 
 def lines(given, tray=Tray):
     """What the program must print of its whole input."""
-    if len(given) < 4:
-        return ["cut"]
-    size = struct.unpack_from("<I", given)[0]
-    if size > AREA:
-        return ["too long"]
-    if len(given) < 4 + size:
-        return ["cut"]
-    held = tray(given[4 : 4 + size])
-    at = 4 + size
-    said = []
-    while at < len(given):
-        kind = given[at]
-        at += 1
-        if kind not in FIELDS:
-            return said + ["unknown"]
-        if len(given) < at + struct.calcsize(FIELDS[kind]):
-            return said + ["cut"]
-        line = held.call(kind, *struct.unpack_from(FIELDS[kind], given, at))
-        at += struct.calcsize(FIELDS[kind])
-        if line:
-            said.append(line)
-    return said
+    area, calls, stopped = frames.tray_calls(given)
+    held = tray(area)
+    said = [held.call(kind, *fields) for kind, fields in calls]
+    return [line for line in [*said, stopped] if line]
 
 
 # ---- wrong trays and readers
@@ -557,7 +538,7 @@ class Feeder:
                 kind = rng.choices(range(4), weights)[0]
                 fields = [self.put, self.turn, self.withdraw, self.change][kind]()
                 self.tray.call(kind, *fields)
-                yield bytes([kind]) + struct.pack(FIELDS[kind], *fields)
+                yield kind, fields
                 n -= 1
 
 
@@ -565,11 +546,11 @@ def run_of(rng, n, size):
     """An input that ends behind its last call, within it, or with a call of no kind."""
     feeder = Feeder(rng, size)
     area = bytes(feeder.tray.area)
-    given = struct.pack("<I", len(area)) + area + b"".join(feeder.calls(n))
+    given = frames.tray_run(area, feeder.calls(n))
     return rng.choice([given, given[: -rng.randint(1, 5)], given + b"\x04" + bytes(9)])
 
 
-ODD = [b"", b"\x00\x00\x00", b"\x02\x00\x00\x00x", struct.pack("<I", AREA + 1) + bytes(AREA + 9), bytes(4), struct.pack("<I", AREA) + b"1 0\n" * (AREA // 4) + bytes([1])]
+ODD = [b"", b"\x00\x00\x00", b"\x02\x00\x00\x00x", frames.tray_run(bytes(AREA + 1)) + bytes(8), frames.tray_run(b""), frames.tray_run(b"1 0\n" * (AREA // 4)) + bytes([frames.TURN])]
 
 # ---- comparing
 
@@ -601,12 +582,8 @@ def first_difference(said, wanted):
 
 def calls_in(given):
     """How many calls of each kind an input has."""
-    counts = collections.Counter()
-    at = 4 + struct.unpack_from("<I", given)[0] if len(given) >= 4 else len(given)
-    while at < len(given) and given[at] in FIELDS and at + 1 + struct.calcsize(FIELDS[given[at]]) <= len(given):
-        counts[given[at]] += 1
-        at += 1 + struct.calcsize(FIELDS[given[at]])
-    return counts
+    _, calls, _ = frames.tray_calls(given)
+    return collections.Counter(kind for kind, _ in calls)
 
 
 def compare(runs, calls, seed):

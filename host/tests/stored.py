@@ -4,37 +4,29 @@
 stored.py CRATES COMMAND..: COMMAND.. takes the frames of crates/host_cases and prints number and place of each. Where the stored answer is 16, the case's own room for
 literals was too small and the calls have more: they must get further, and not answer 16.
 """
-import struct
+import pathlib
 import subprocess
 import sys
 
-STORED = struct.Struct("<BBII")
-FRAME = struct.Struct("<III")
+sys.path.append(str(pathlib.Path(__file__).resolve().parent.parent.parent / "tools"))
+import frames
+
 BUFFER_FULL = 16
 
 
 def main():
     crates, command = sys.argv[1], sys.argv[2:]
-    with open(f"{crates}/answers/stdin", "rb") as file:
-        given = file.read()
-    with open(f"{crates}/answers/stdout") as file:
-        said = [case.splitlines()[-1].split() for case in file.read().split("case ")[1:]]
-
-    frames, lengths, at = [], [], 0
-    while at < len(given):
-        format, mode, _, length = STORED.unpack_from(given, at)
-        at += STORED.size
-        frames.append(FRAME.pack(format, mode, length) + given[at:at + length])
-        lengths.append(length)
-        at += length
-    found = subprocess.run(command, input=b"".join(frames), stdout=subprocess.PIPE, check=True).stdout.decode().splitlines()
-    if not len(found) == len(said) == len(frames):
-        sys.exit(f"stored: {len(frames)} cases, {len(said)} stored answers, {len(found)} lines")
+    cases = list(frames.cases(f"{crates}/reader_cases/stdin"))
+    said = [lines[-1].split() for lines in frames.answers(f"{crates}/reader_cases/stdout")]
+    given = b"".join(frames.host_case(format, mode, text) for format, mode, _, text in cases)
+    found = subprocess.run(command, input=given, stdout=subprocess.PIPE, check=True).stdout.decode().splitlines()
+    if not len(found) == len(said) == len(cases):
+        sys.exit(f"stored: {len(cases)} cases, {len(said)} stored answers, {len(found)} lines")
 
     equal = further = 0
-    for n, (line, words, length) in enumerate(zip(found, said, lengths)):
+    for n, (line, words, (*_, text)) in enumerate(zip(found, said, cases)):
         number, place = map(int, line.split())
-        wanted = (int(words[1]), int(words[2])) if words[0] == "refused" else (0, length)
+        wanted = (int(words[1]), int(words[2])) if words[0] == b"refused" else (0, len(text))
         if wanted[0] == BUFFER_FULL:
             right = number != BUFFER_FULL and place > wanted[1]
             further += 1
