@@ -30,19 +30,29 @@ extern "C" {
 
 /* The number of the refusal that the text comes to, or 0 if it is read to its end.
  *
- *    1  after `p`, not the format's word              11  clause count above 64 bits
- *    2  variable count expected                       12  third count above 64 bits
- *    3  clause count expected                         13  weight above 64 bits
- *    4  third count expected                          14  group above its limit
- *    5  line end expected                             15  literal beyond its limit
- *    6  literal or 0 expected                         16  more than 1,024 literals
- *    7  literal or 0 expected after line ends         17  solution word expected
- *    8  literals expected after a weight or group     18  log line of no permitted kind
- *    9  clause, comment, line end or end expected     19  log ends with an open assignment
- *   10  variable count above 2,147,483,647            26  no such format or mode; nothing was read
+ *    1  the word of the format is expected after `p`
+ *    2  the count of variables is expected
+ *    3  the count of clauses is expected
+ *    4  the top weight or the count of groups is expected
+ *    5  a line end is expected
+ *    6  a literal or 0 is expected
+ *    7  a literal or 0 is expected after the line end
+ *    8  literals are expected after a weight or group
+ *    9  a clause, a comment, a line end or a permitted end of the text is expected
+ *   10  a count of variables up to 2147483647 is expected
+ *   11  a count of clauses up to 18446744073709551615 is expected
+ *   12  a top weight or count of groups up to 18446744073709551615 is expected
+ *   13  a weight up to 18446744073709551615 is expected
+ *   14  a group within its limit is expected, the header's count of groups or 18446744073709551615
+ *   15  a literal within its limit is expected, the header's count of variables or 2147483647
+ *   16  no more than 1024 literals are expected in a clause or a log
+ *   17  SATISFIABLE, UNSATISFIABLE or UNKNOWN is expected
+ *   18  a log line of a permitted kind is expected
+ *   19  the 0 that closes the assignment is expected
+ *   26  a known format and a known mode are expected
  *
  * In the strict mode 9 is also what a wrong clause count comes to, other than 0, which is none: the place is the text's end if there are fewer clauses, and the first clause
- * beyond the count if there are more.
+ * beyond the count if there are more. With 26 nothing was read.
  */
 uint32_t latchtwig_refusal(uint32_t format, uint32_t mode, const uint8_t *text, size_t length);
 

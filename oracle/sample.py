@@ -19,12 +19,15 @@ import zlib
 
 sys.path.append(str(pathlib.Path(__file__).resolve().parent.parent / "tools"))
 import frames
+import refusals
 
 # A kind keeps so many candidates in either order.
 KEPT = 400
 
 # Longer texts are not chosen.
 LONGEST = 200
+
+UNKNOWN = refusals.NUMBERS["FORMAT_OR_MODE_UNKNOWN"]
 
 
 def outcome(lines):
@@ -35,8 +38,8 @@ def outcome(lines):
 
 def kind(format, mode, text, lines):
     number = outcome(lines)
-    if number == 26:
-        return min(format, 4), min(mode, 2), 26, ()
+    if number == UNKNOWN:
+        return min(format, 4), min(mode, 2), UNKNOWN, ()
     first = lines[0].split()
     header = 0 if first[0] != b"header" else 1 if first[1] == b"none" else 2
     clauses = sum(line.startswith(b"clause") for line in lines)

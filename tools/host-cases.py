@@ -14,7 +14,10 @@ import sys
 import frames
 
 ROOM = 1024
+
+# Numbers as document 01 has them, and not from host/refusals.txt: the code is held to what is made here.
 BUFFER_FULL = 16
+LOG_LINE_EXPECTED = 18
 UNKNOWN = 26
 
 
@@ -61,7 +64,7 @@ def full():
                 if count > ROOM:
                     yield format, mode, text, BUFFER_FULL, len(before) + 2 * ROOM
                 elif after.endswith(b"s SATISFIABLE\n") and mode == 0:
-                    yield format, mode, text, 18, len(text) - len(b"s SATISFIABLE\n")
+                    yield format, mode, text, LOG_LINE_EXPECTED, len(text) - len(b"s SATISFIABLE\n")
                 else:
                     yield format, mode, text, 0, len(text)
 

@@ -7,7 +7,7 @@ tray-cases.py --sample DIR                        writes DIR/stdin, a run with e
                                               the tray here says of it
 
 The tray here is a plain list of jobs, and the reader goes by regular expressions, so that a slip in the definition or the code and the same
-slip here are unlikely to meet. Refusal 25 is not reached: it takes 2^64 - 1 tickets. The exit status is 1 if anything is not as it must be.
+slip here are unlikely to meet. The refusal numbers are document 01's, and not read from host/refusals.txt. 25 is not reached: it takes 2^64 - 1 tickets. The exit status is 1 if anything is not as it must be.
 """
 
 import argparse

@@ -10,8 +10,9 @@ import sys
 
 sys.path.append(str(pathlib.Path(__file__).resolve().parent.parent.parent / "tools"))
 import frames
+import refusals
 
-BUFFER_FULL = 16
+BUFFER_FULL = refusals.NUMBERS["BUFFER_FULL"]
 
 
 def main():

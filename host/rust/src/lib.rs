@@ -66,6 +66,7 @@ impl Refusal {
     /// assert_eq!(refusal.words(), "literals are expected after a weight or group");
     /// ```
     pub fn words(&self) -> &'static str {
+        // The rows of host/refusals.txt that are marked host.
         match self.number {
             1 => "the word of the format is expected after `p`",
             2 => "the count of variables is expected",
