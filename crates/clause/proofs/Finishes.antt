@@ -17,7 +17,7 @@ use Rattle.dimacs.specs.declared.Start.{Start}
 use Rattle.dimacs.specs.declared.Start.the-variants as start
 use Rattle.dimacs.specs.declared.EndOfLine.{EndOfLine}
 use Rattle.dimacs.specs.declared.EndOfLine.the-variants as end
-use Rattle.rows.specs.Answers.{Counted}
+use Rattle.rows.specs.Answers.{ByCount}
 use Rattle.clause.specs.Answers.{literalsOf, readOf, ReadsLiterals, answeredOf, leftBy, Answers}
 use Rattle.clause.specs.declared.Literals.{Literals}
 use Rattle.clause.specs.declared.Literals.the-variants.{Nothing, Closed, Stopped}
@@ -60,7 +60,7 @@ module _ (s : List ℕ) (limit extra at : ℕ) (absence : Absence) (old new : Li
 
   abbrev Finishes : Literals → Type 0
   Finishes Nothing = (r : Answered) → r ≡ answeredOf (def.instead (def.absent s absence at)) → Ends r
-  Finishes (Closed n p) = (r : Answered) → Counted n (λ so. answeredOf (def.closing s extra p so)) r → Ends r
+  Finishes (Closed n p) = (r : Answered) → ByCount n (λ so. answeredOf (def.closing s extra p so)) r → Ends r
   Finishes (Stopped x n) = Ends (record { answer = next.Refused x n; place = x .place })
 
   pub literals-finish : {l m : Literals} → ReadsLiterals s limit at old new l → l ≡ m → Finishes m

@@ -67,15 +67,15 @@ module _ {s : List ℕ} {limit at : ℕ} {old lits : List ℤ} {from held : ℕ}
     pub on : (count ≡ 0 → ⊥) → (count ≡ held → ⊥) → (q : ℕ) → q ≡ linebreaks s place → (q ≡ place → ⊥)
         → SoFar s limit at old new q count × (length s - q < length s - from)
 
-  abbrev RowLeads : List ℤ → Row → Type 0
-  RowLeads new (Ends place count) = EndsOpen new place count
-  RowLeads new (Closes place count) = ReadsLiterals s limit at old new (Closed count place)
-  RowLeads new (Stops x count) = ReadsLiterals s limit at old new (Stopped x count)
+  abbrev AfterRow : List ℤ → Row → Type 0
+  AfterRow new (Ends place count) = EndsOpen new place count
+  AfterRow new (Closes place count) = ReadsLiterals s limit at old new (Closed count place)
+  AfterRow new (Stops x count) = ReadsLiterals s limit at old new (Stopped x count)
 
-  pub row-leads : {new : List ℤ} {r m : Row} → rows.Reads (row s limit (length lits) (reads from (take held lits))) lits new r
-      → r ≡ m → RowLeads new m
+  pub after-row : {new : List ℤ} {r m : Row} → rows.Reads (row s limit (length lits) (reads from (take held lits))) lits new r
+      → r ≡ m → AfterRow new m
   unfolding the-row
-  row-leads {new} g e = subst (RowLeads new) e (by-row (RowLeads new) g go)
+  after-row {new} g e = subst (AfterRow new) e (by-row (AfterRow new) g go)
     where
       here : def.Reading
       here = reads from (take held lits)
@@ -87,7 +87,7 @@ module _ {s : List ℕ} {limit at : ℕ} {old lits : List ℤ} {from held : ℕ}
       empty [] e = refl
       empty (x ∷ so) e = absurd (omega arith)
 
-      go : (d : def.Row) → the-row ≡ d → new ≡ laid (readBy d) lits → RowLeads new (rowOf d)
+      go : (d : def.Row) → the-row ≡ d → new ≡ laid (readBy d) lits → AfterRow new (rowOf d)
       go (def.closes p so) e b = let f = h .so-far ∙ closed-by s limit (length old) here e in record { answer = rw f; buffer = rw f (over (def.closes p so) e b) }
       go (def.stops x so) e b = let f = h .so-far ∙ stopped-by s limit (length old) here e in record { answer = rw f; buffer = rw f (over (def.stops x so) e b) }
       go (def.ends p so) e b =

@@ -3,7 +3,7 @@ ghost use mathlib.Core.Path.{_≡_};
 ghost use lib.ListN.{length};
 ghost use Rattle.dimacs.specs.Clauses.{instead, absent, startBy, startAt, closing, clauseAt};
 ghost use Rattle.dimacs.specs.declared.Absence.{Absence};
-ghost use Rattle.rows.specs.Answers.{Counted};
+ghost use Rattle.rows.specs.Answers.{ByCount};
 ghost use Rattle.clause.specs.Answers.{answeredOf, ReadsLiterals, Answers};
 use dimacs::Absence;
 use dimacs::CLAUSE_EXPECTED;
@@ -162,7 +162,7 @@ fn start_at(text: &[u8], at: usize, format: Format, groups: u64, absence: Absenc
 
 // What closes the line of a clause after its 0.
 fn closing(text: &[u8], at: usize, extra: u64, count: usize) -> Answered
-    ensures { λ r. ⌜ Counted count (λ so. answeredOf (closing (now (text .entry)) extra at so)) r ⌝ }
+    ensures { λ r. ⌜ ByCount count (λ so. answeredOf (closing (now (text .entry)) extra at so)) r ⌝ }
 {
     match token::interactive_end_of_line(text, at) {
         EndOfLine::Missing => Answered {

@@ -21,5 +21,5 @@ pub record Reads (d : def.Row) (old new : List ℤ) (r : Row) : Type 0 where
   pub buffer : new ≡ laid (def.readBy d) old
 
 -- An answer that tells by their count which literals the buffer holds: it is the same for any that are so many.
-abbrev pub Counted : {A : Type 0} → ℕ → (List ℤ → A) → A → Type 0
-Counted n f r = (so : List ℤ) → length so ≡ n → r ≡ f so
+abbrev pub ByCount : {A : Type 0} → ℕ → (List ℤ → A) → A → Type 0
+ByCount n f r = (so : List ℤ) → length so ≡ n → r ≡ f so

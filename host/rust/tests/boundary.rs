@@ -53,7 +53,7 @@ fn last_lines(transcript: &str) -> Vec<Vec<&str>> {
 /// Every case of crates/reader_cases. Where its own room ran out, the calls have more: they get further, and the buffer is not full.
 #[test]
 fn stored_cases() {
-    let (given, said) = (stored("answers/stdin"), stored("answers/stdout"));
+    let (given, said) = (stored("reader_cases/stdin"), stored("reader_cases/stdout"));
     let said = String::from_utf8(said).unwrap();
     let lines = last_lines(&said);
     let mut given = &given[..];

@@ -1,7 +1,7 @@
 -- `clause::clause_lits` meets its contract: each way out, and each way on, by what the row leads to. Assumes nothing.
 use Prim.Native.Nat.{_-_}
 use lib.ListN.{length}
-use Rattle.clause.proofs.RowByRow.{SoFar, so-far-start, row-leads}
+use Rattle.clause.proofs.RowByRow.{SoFar, so-far-start, after-row}
 use borrow.Author.Needs.{needs}
 use Rattle.clause.proofs.clause_lits.Statement.{statement}
 use Rattle.clause.proofs.clause_lits.Tie as tie
@@ -35,7 +35,7 @@ returns : tie.Need-returns Inv-loop μ-loop
 returns c =
     let known = c .before in
     let row = at-row known in
-    row-leads (at-loop row .loop .inv) (row .ints .ensures) (known .before .place .given .1) .none (c .if1 .taken)
+    after-row (at-loop row .loop .inv) (row .ints .ensures) (known .before .place .given .1) .none (c .if1 .taken)
 
 refuse-requires : tie.Need-refuse-requires Inv-loop μ-loop
 refuse-requires c κs = search needs
@@ -48,7 +48,7 @@ returns-2 c =
     let none = c .before .before in
     let known = none .before in
     let row = at-row known in
-    row-leads (at-loop row .loop .inv) (row .ints .ensures) (known .before .place .given .1) .after-lines (none .if1 .left) (c .before .if2 .taken) _ (c .refuse .ensures)
+    after-row (at-loop row .loop .inv) (row .ints .ensures) (known .before .place .given .1) .after-lines (none .if1 .left) (c .before .if2 .taken) _ (c .refuse .ensures)
 
 non-terminating-linebreaks-requires : tie.Need-non-terminating-linebreaks-requires Inv-loop μ-loop
 non-terminating-linebreaks-requires c κs = search needs
@@ -65,7 +65,7 @@ returns-3 c =
     let some = lines .before .before in
     let known = some .before in
     let row = at-row known in
-    row-leads (at-loop row .loop .inv) (row .ints .ensures) (known .before .place .given .1) .on-line (some .if1 .left) (lines .before .if2 .left) _ (lines .non-terminating-linebreaks .ensures) (c .before .if3 .taken) _ (c .refuse2 .ensures)
+    after-row (at-loop row .loop .inv) (row .ints .ensures) (known .before .place .given .1) .on-line (some .if1 .left) (lines .before .if2 .left) _ (lines .non-terminating-linebreaks .ensures) (c .before .if3 .taken) _ (c .refuse2 .ensures)
 
 loop-less : tie.Need-loop-less Inv-loop μ-loop
 loop-less c =
@@ -73,7 +73,7 @@ loop-less c =
     let some = lines .before .before in
     let known = some .before in
     let row = at-row known in
-    row-leads (at-loop row .loop .inv) (row .ints .ensures) (known .before .place .given .1) .on (some .if1 .left) (lines .before .if2 .left) _ (lines .non-terminating-linebreaks .ensures) (c .if3 .left) .1
+    after-row (at-loop row .loop .inv) (row .ints .ensures) (known .before .place .given .1) .on (some .if1 .left) (lines .before .if2 .left) _ (lines .non-terminating-linebreaks .ensures) (c .if3 .left) .1
 
 loop-again : tie.Need-loop-again Inv-loop μ-loop
 loop-again c =
@@ -81,7 +81,7 @@ loop-again c =
     let some = lines .before .before in
     let known = some .before in
     let row = at-row known in
-    row-leads (at-loop row .loop .inv) (row .ints .ensures) (known .before .place .given .1) .on (some .if1 .left) (lines .before .if2 .left) _ (lines .non-terminating-linebreaks .ensures) (c .if3 .left) .0
+    after-row (at-loop row .loop .inv) (row .ints .ensures) (known .before .place .given .1) .on (some .if1 .left) (lines .before .if2 .left) _ (lines .non-terminating-linebreaks .ensures) (c .if3 .left) .0
 
 enum-known-place-2 : tie.Need-enum-known-place-2 Inv-loop μ-loop
 enum-known-place-2 c = search needs
@@ -92,7 +92,7 @@ same-length-4 c = search needs
 returns-4 : tie.Need-returns-4 Inv-loop μ-loop
 returns-4 c =
     let row = c .before .before .before .before in
-    row-leads (at-loop row .loop .inv) (row .ints .ensures) (c .before .place2 .given .1)
+    after-row (at-loop row .loop .inv) (row .ints .ensures) (c .before .place2 .given .1)
 
 enum-known-refusal : tie.Need-enum-known-refusal Inv-loop μ-loop
 enum-known-refusal c = search needs
@@ -103,7 +103,7 @@ same-length-5 c = search needs
 returns-5 : tie.Need-returns-5 Inv-loop μ-loop
 returns-5 c =
     let row = c .before .before .before .before in
-    row-leads (at-loop row .loop .inv) (row .ints .ensures) (c .before .refusal .given .1)
+    after-row (at-loop row .loop .inv) (row .ints .ensures) (c .before .refusal .given .1)
 
 pub clause-lits-spec : {M : Type 1} → statement M
 clause-lits-spec =
