@@ -1,13 +1,10 @@
 -- Whole texts: what they come to, and the calls that read them.
-use Prim.Native.Nat.{ℕ, _+_, _≤_, min, suc}
+use Prim.Native.Nat.{ℕ, _+_}
 use mathlib.Core.List.{List, [], _∷_}
-use mathlib.Core.Path.{_≡_}
-use lib.ListN.{length, drop}
+use lib.ListN.{length}
 use lib.IntN.{ℤ}
 use Rattle.dimacs.specs.Loop.{Turn, on, last, said}
-use Rattle.dimacs.specs.Bytes.{isNotStop}
-use Rattle.dimacs.specs.Names.{longestWord, ownRoom}
-use Rattle.dimacs.specs.Tokens.{run}
+use Rattle.dimacs.specs.Names.{ownRoom}
 use Rattle.dimacs.specs.Clauses as def
 use Rattle.dimacs.specs.Texts as texts
 use Rattle.dimacs.specs.declared.Format.{Format}
@@ -25,11 +22,6 @@ use Rattle.formula.specs.declared.Outcome.{Outcome}
 use Rattle.formula.specs.declared.Outcome.the-variants as outcome
 use Rattle.formula.specs.Cursors.{answerFrom, stepOf}
 
--- A word ends at a place within the text: past its first byte and all up to the next stop, or as far as the longest word goes.
-pub record WordEnds (s : List ℕ) (at e : ℕ) : Type 0 where
-  pub on : at ≤ e
-  pub within : e ≤ length s
-  pub there : e ≡ at + min longestWord (suc (run isNotStop (drop (at + 1) s)))
 
 -- By the last of a text's answers.
 unfoldable pub outcomeBy : List def.Answer → Outcome

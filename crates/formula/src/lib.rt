@@ -2,14 +2,12 @@
 //
 // `open` answers how the text opens, and a cursor. Each `next_clause` answers a clause, the end or a refusal, and the cursor to go on with.
 ghost use mathlib.Core.Path.{_≡_};
-ghost use Prim.Native.Nat.{_≤_, _<_};
 ghost use lib.ListN.{length};
 ghost use Rattle.dimacs.specs.Names.{ownRoom};
-ghost use Rattle.dimacs.specs.Tokens.{stoppedAt};
 ghost use Rattle.dimacs.specs.Texts.{progress, nextClause, oneMore, settledBy};
 ghost use Rattle.clause.specs.Answers.{Answers};
 ghost use Rattle.formula.specs.Cursors.{cursorOf, openedAs, opened, unknown, answerFrom, reached, absenceOf, lastOf, settledAs, Steps};
-ghost use Rattle.formula.specs.Whole.{WordEnds, outcomeFrom, outcomeIn};
+ghost use Rattle.formula.specs.Whole.{outcomeFrom, outcomeIn};
 use clause::Answered;
 use clause::Next;
 use dimacs::Absence;
@@ -18,7 +16,6 @@ use dimacs::Final;
 use dimacs::Format;
 use dimacs::Kind;
 use dimacs::LARGEST;
-use dimacs::LONGEST_WORD;
 use dimacs::Limits;
 use dimacs::Mode;
 use dimacs::Opening;
@@ -231,40 +228,6 @@ impl Cursor {
         let a = self.answer(text, lits);
         self.settle(a)
     }
-}
-
-// Past the word at a place before the text's end.
-fn word_end(text: &[u8], at: usize) -> usize
-    requires { ⌜ at < length (now text) ⌝ }
-    ensures { λ r. ⌜ WordEnds (now (text .entry)) at r ⌝ }
-{
-    let mut i = at + 1;
-    while i < text.len() {
-        if LONGEST_WORD <= i - at {
-            return i;
-        }
-        if token::is_end_of_word(text, i) {
-            return i;
-        }
-        i += 1;
-    }
-    i
-}
-
-// The word a reader stopped at, as a part of the text: empty at a line end or the end of the text.
-pub fn stopped_at(text: &[u8], at: usize) -> &[u8]
-    ensures { λ r. ⌜ now r ≡ stoppedAt (now (text .entry)) at ⌝ }
-{
-    let n = text.len();
-    if n <= at {
-        return &text[n..n];
-    }
-    let line = token::interactive_newline(text, at);
-    if line == at {
-        let e = word_end(text, at);
-        return &text[at..e];
-    }
-    &text[at..at]
 }
 
 // What a whole text comes to.

@@ -56,7 +56,7 @@ impl<'a> Reader<'a> {
     pub fn stopped_at(self) -> &'a [u8]
         ensures { λ r. ⌜ now r ≡ stoppedAt (now (self .entry .text)) (self .entry .cursor .progress .place) ⌝ }
     {
-        formula::stopped_at(self.text, self.cursor.progress.place)
+        token::stopped_at(self.text, self.cursor.progress.place)
     }
 }
 

@@ -31,7 +31,7 @@ fn stopped_word(w: &[u8]) {
 fn refused_line(text: &[u8], r: Refusal, count: usize) {
     console::refused_words(r, count, b"", b"");
     if r.number != dimacs::FORMAT_OR_MODE_UNKNOWN {
-        stopped_word(formula::stopped_at(text, r.place));
+        stopped_word(token::stopped_at(text, r.place));
     }
     word(b"\n");
 }

@@ -1,2 +1,3 @@
--- Laws about the parts of lines, which several proofs cite.
+-- Laws that the proofs of several functions cite.
 pub mod Parts
+pub mod Stops

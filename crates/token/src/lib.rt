@@ -1,9 +1,12 @@
 // Tokens: which word, comment or line end stands at a place of a lent text. Any bytes and any place are taken, also a place past the text's end.
 // A function answers the place past the token, or the place itself where there is none. The names are those of token.rs.
 ghost use mathlib.Core.Path.{_≡_};
-ghost use Rattle.dimacs.specs.Tokens.{atEnd, blanks, lineEnd, nextLine, endOfLine, fixed, wordEnds, word, comment, strictComment, newline, lines, linebreaks};
-ghost use Rattle.token.specs.Parts.{linePast};
+ghost use Prim.Native.Nat.{_<_};
+ghost use lib.ListN.{length};
+ghost use Rattle.dimacs.specs.Tokens.{atEnd, blanks, lineEnd, nextLine, endOfLine, fixed, wordEnds, word, comment, strictComment, newline, lines, linebreaks, stoppedAt};
+ghost use Rattle.token.specs.Parts.{linePast, PastWord};
 use dimacs::EndOfLine;
+use dimacs::LONGEST_WORD;
 
 // Whether the text has ended.
 pub fn eof(text: &[u8], at: usize) -> bool
@@ -193,4 +196,38 @@ pub fn non_terminating_linebreaks(text: &[u8], at: usize) -> usize
         return at;
     }
     comments_and_newlines(text, a)
+}
+
+// Past the word at a place before the text's end, or as far as the longest word goes.
+fn word_end(text: &[u8], at: usize) -> usize
+    requires { ⌜ at < length (now text) ⌝ }
+    ensures { λ r. ⌜ PastWord (now (text .entry)) at r ⌝ }
+{
+    let mut i = at + 1;
+    while i < text.len() {
+        if LONGEST_WORD <= i - at {
+            return i;
+        }
+        if is_end_of_word(text, i) {
+            return i;
+        }
+        i += 1;
+    }
+    i
+}
+
+// The word a reader stopped at, as a part of the text: empty at a line end or the end of the text.
+pub fn stopped_at(text: &[u8], at: usize) -> &[u8]
+    ensures { λ r. ⌜ now r ≡ stoppedAt (now (text .entry)) at ⌝ }
+{
+    let n = text.len();
+    if n <= at {
+        return &text[n..n];
+    }
+    let line = interactive_newline(text, at);
+    if line == at {
+        let e = word_end(text, at);
+        return &text[at..e];
+    }
+    &text[at..at]
 }

@@ -4,10 +4,10 @@ use mathlib.Core.List.{[], _∷_}
 use denote.Struct.Laws as LL
 use Rattle.walks.proofs.Words.{URA, named, w64, Val, vint, SProp, id⊢, ftrue, flft, Memory, Routine, Heap, Calls, Loops, Atoms, FmC, Fun, givenOf, u8, usize, Is, uint-makes, owns, NamedLft, now, namedLft, shr-slice-lawful, shr-slice-tells, owned, nothing, Triple, cited, says, Given, ‵, _⊛_, _$_, _∵_, !, qed, move, use1, split, fsplit, fjoin, frame, done, keep, whole, sub, look-in, look, stop, fld, from, and-then, no-more, of-opd, returns, load, Params, enters, leaves, whole-of, field-of, puts, lands-in, Callee, calls-by, Walk, ends, proved}
 use Rattle.dimacs.specs.Tokens.{stoppedAt}
-use Rattle.formula.proofs.stopped_at as word
-use Rattle.formula.proofs.stopped_at.Symbol as word-def
-use Rattle.formula.proofs.stopped_at.Symbol.{name as #word}
-use Rattle.formula.proofs.stopped_at.Met as word-thm
+use Rattle.token.proofs.stopped_at as word
+use Rattle.token.proofs.stopped_at.Symbol as word-def
+use Rattle.token.proofs.stopped_at.Symbol.{name as #word}
+use Rattle.token.proofs.stopped_at.Met as word-thm
 use Rattle.reader.specs.declared.Reader.{Reader}
 use Rattle.reader.proofs.Held.{byValue, textVal, readerVal, Text, Own, text-out}
 use Rattle.reader.proofs.Reader as T
@@ -48,4 +48,4 @@ unfolding code.routine
 stopped-at-spec 𝓤 H 𝓜 𝓖 𝓡 =
     proved 𝓤 H 𝓜 𝓖 𝓡 f.ended (f.clauses 𝓤 H (𝓖 .A) (𝓜 .mem) (𝓡 .run)) params code.env #stopped-at code.function (code.unfolded 𝓤 H 𝓜 𝓡)
     (λ fm. walk 𝓤 H (𝓖 .A) (givenOf 𝓤 H 𝓜 𝓖) (𝓜 .mem) (𝓡 .run) _ _ fm
-    (cited 𝓤 H (Callee 𝓤 H (𝓖 .A) word.ended (word.clauses 𝓤 H (𝓖 .A) (𝓜 .mem) (𝓡 .run))) 𝓜 𝓡 code.env #word word-def.routine code.calls-formula·stopped-at (word-thm.met 𝓤 H 𝓜 𝓖 𝓡)))
+    (cited 𝓤 H (Callee 𝓤 H (𝓖 .A) word.ended (word.clauses 𝓤 H (𝓖 .A) (𝓜 .mem) (𝓡 .run))) 𝓜 𝓡 code.env #word word-def.routine code.calls-token·stopped-at (word-thm.met 𝓤 H 𝓜 𝓖 𝓡)))

@@ -1,10 +1,10 @@
--- `formula::stopped_at` meets its contract: each part is the word. Assumes nothing.
+-- `token::stopped_at` meets its contract: each part is the word. Assumes nothing.
 use mathlib.Core.Path.{sym, _∙_}
 use lib.ListN.{length}
-use Rattle.formula.proofs.Words.{word-part, line-part, end-part}
+use Rattle.token.proofs.Stops.{stopped-at-word, stopped-at-line-end, stopped-at-end}
 use borrow.Author.Needs.{needs}
-use Rattle.formula.proofs.stopped_at.Statement.{statement}
-use Rattle.formula.proofs.stopped_at.Tie as tie
+use Rattle.token.proofs.stopped_at.Statement.{statement}
+use Rattle.token.proofs.stopped_at.Tie as tie
 
 sub-result : tie.Need-sub-result
 sub-result c = search needs
@@ -16,7 +16,7 @@ part-result-end : tie.Need-part-result-end
 part-result-end c = search needs
 
 returns : tie.Need-returns
-returns c = end-part _ _ (length (c .before .before .before .args .text .now)) (c .before .if1 .taken)
+returns c = stopped-at-end _ _ (length (c .before .before .before .args .text .now)) (c .before .if1 .taken)
 
 interactive-newline-requires : tie.Need-interactive-newline-requires
 interactive-newline-requires c κs = search needs
@@ -34,7 +34,8 @@ part-result-end-2 : tie.Need-part-result-end-2
 part-result-end-2 c = search needs
 
 returns-2 : tie.Need-returns-2
-returns-2 c = word-part _ _ _ (c .before .word-end .ensures) (sym (c .before .before .before .interactive-newline .ensures) ∙ c .before .before .if2 .taken)
+returns-2 c = let at-if2 = c .before .before in
+    stopped-at-word _ _ _ (c .before .word-end .ensures) (sym (at-if2 .before .interactive-newline .ensures) ∙ at-if2 .if2 .taken)
 
 sub-result-3 : tie.Need-sub-result-3
 sub-result-3 c = search needs
@@ -46,7 +47,8 @@ part-result-end-3 : tie.Need-part-result-end-3
 part-result-end-3 c = search needs
 
 returns-3 : tie.Need-returns-3
-returns-3 c = line-part _ _ (λ e. c .before .if2 .left (c .before .before .interactive-newline .ensures ∙ e))
+returns-3 c = let at-if2 = c .before in
+    stopped-at-line-end _ _ (λ e. at-if2 .if2 .left (at-if2 .before .interactive-newline .ensures ∙ e))
 
 pub stopped-at-spec : {M : Type 1} → statement M
 stopped-at-spec =
