@@ -103,7 +103,7 @@ def answers(s, at, limit):
         e,
         at if at >= len(s) else e if e != at else "-",
         broken,
-        comment(s, at),
+        next_line(s, at + 1) if s[at:at + 1] == b"c" else e,
         at if strict == at else next_line(s, strict),
         lines(s, at),
         at if broken == at else lines(s, broken),

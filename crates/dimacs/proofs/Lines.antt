@@ -5,16 +5,14 @@ use mathlib.Core.List.{List}
 use mathlib.Core.Path.{_≡_, refl, sym, _∙_}
 use native.Mathlib.Omega.{arith}
 use borrow.Author.Tests.{eq-eqb, ne-eqb, lt-ltb, le-ltb, le-leb, lt-leb, eqb-true}
-use lib.Dec.{eqb, leb}
+use lib.Dec.{eqb}
 use lib.ListN.{length, getD, List·getD-eq-default}
 use Rattle.dimacs.specs.Bytes.{bytes, isNotLF}
-use Rattle.dimacs.specs.Tokens.{past, blanks, lineEnd, nextLine, endOfLine, fixed, comment, strictComment, newline, commentOrNewline, lines, linebreaks}
-use Rattle.dimacs.specs.Loop.{Step, again, answer}
+use Rattle.dimacs.specs.Tokens.{past, blanks, lineEnd, nextLine, endOfLine, fixed, strictComment, newline, linePast, commentOrNewline, lines, linebreaks}
 use Rattle.dimacs.specs.declared.EndOfLine.the-variants as end
 use Rattle.dimacs.proofs.Bytes.{is-LF}
 use Rattle.dimacs.proofs.Past.{past-stop, past-end}
-use Rattle.dimacs.proofs.Loops.{after}
-use Rattle.dimacs.proofs.Spans.{moved, comment-spans, newline-spans, lines-step}
+use Rattle.dimacs.proofs.Spans.{line-past-moved, lines-step}
 
 -- Past the end there is no byte but 0.
 pub no-byte : (s : List ℕ) (i b : ℕ) → length s ≤ i → getD s i 0 ≡ suc b → ⊥
@@ -69,13 +67,13 @@ module _ (s : List ℕ) (at : ℕ) where
     unfolding nextLine
     next-line-end h = rw (sym so ∙ past-end isNotLF s i h, le-ltb i (length s) h)
 
-  pub comment-is : getD s at 0 ≡ 99 → comment s at ≡ blanks s (nextLine s (at + 1))
-  unfolding comment
-  comment-is h = rw (eq-eqb (getD s at 0) 99 h)
+  pub line-past-comment : getD s at 0 ≡ 99 → linePast s at ≡ nextLine s (at + 1)
+  unfolding linePast
+  line-past-comment h = rw (eq-eqb (getD s at 0) 99 h)
 
-  pub comment-no : (getD s at 0 ≡ 99 → ⊥) → comment s at ≡ at
-  unfolding comment
-  comment-no h = rw (ne-eqb (getD s at 0) 99 h)
+  pub line-past-end : (getD s at 0 ≡ 99 → ⊥) → linePast s at ≡ lineEnd s at
+  unfolding linePast
+  line-past-end h = rw (ne-eqb (getD s at 0) 99 h)
 
   module _ (e : ℕ) (is : e ≡ fixed s (bytes "c ") at) where
     pub strict-comment-is : (e ≡ at → ⊥) → strictComment s at ≡ nextLine s e
@@ -86,27 +84,17 @@ module _ (s : List ℕ) (at : ℕ) where
     unfolding strictComment
     strict-comment-no n = rw (sym is, eq-eqb e at n)
 
-  -- What a loop over comments and line ends asks, of the places that its calls gave: the measure falls, and the rest is the same.
-  module _ (a : ℕ) (is : a ≡ comment s at) where
-    pub lines-comment : (a ≡ at → ⊥) → (length s - a < length s - at) × (lines s a ≡ lines s at)
+  -- What a loop over comments and line ends asks, of the place that its call gave: the measure falls, and the rest is the same.
+  module _ (a : ℕ) (is : a ≡ linePast s at) where
+    pub lines-stop : a ≡ at → lines s at ≡ at
     unfolding commentOrNewline
-    lines-comment n =
-        let k = ne-eqb (comment s at) at (λ e. n (is ∙ e)) in
-        (rw is (moved (comment-spans s at) k), sym (rw (lines-step s at, k, is)))
+    lines-stop h = rw (lines-step s at, eq-eqb (linePast s at) at (sym is ∙ h))
 
-    pub lines-newline : a ≡ at → (b : ℕ) → b ≡ newline s at → (b ≡ at → ⊥) → (length s - b < length s - at) × (lines s b ≡ lines s at)
+    pub lines-on : (a ≡ at → ⊥) → (b : ℕ) → b ≡ blanks s a → (length s - b < length s - at) × (lines s b ≡ lines s at)
     unfolding commentOrNewline
-    lines-newline h b so n =
-        let j = eq-eqb (comment s at) at (sym is ∙ h) in
-        let k = ne-eqb (newline s at) at (λ e. n (so ∙ e)) in
-        (rw so (moved (newline-spans s at) k), sym (rw (lines-step s at, j, k, so)))
-
-    pub lines-stop : a ≡ at → (b : ℕ) → b ≡ newline s at → b ≡ at → lines s at ≡ at
-    unfolding commentOrNewline
-    lines-stop h b so n =
-        let j = eq-eqb (comment s at) at (sym is ∙ h) in
-        let k = eq-eqb (newline s at) at (sym so ∙ n) in
-        rw (lines-step s at, j, k)
+    lines-on n b so =
+        let k = ne-eqb (linePast s at) at (λ e. n (is ∙ e)) in
+        (rw (so, is) (line-past-moved s at k), sym (rw (lines-step s at, k, so, is)))
 
   module _ (a : ℕ) (is : a ≡ newline s at) where
     pub linebreaks-no : a ≡ at → linebreaks s at ≡ at

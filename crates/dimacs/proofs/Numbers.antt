@@ -16,10 +16,9 @@ use Rattle.dimacs.specs.Names.{ceiling}
 use Rattle.dimacs.specs.declared.Uint.{Uint}
 use Rattle.dimacs.specs.declared.Uint.the-variants as uint
 use Rattle.dimacs.specs.declared.Int.the-variants as int
-use Rattle.dimacs.proofs.Tests.{chosen, tested}
+use Rattle.dimacs.proofs.Tests.{chosen}
 use Rattle.dimacs.proofs.Bytes.{is-digit, below-digit, above-digit}
 use Rattle.dimacs.proofs.Past.{past-more, past-stop, past-end}
-use Rattle.dimacs.proofs.Spans.{past-spans}
 
 -- More digits make a number no smaller.
 decimal-on : (v : ℕ) (r : List ℕ) → v ≤ decimal v r

@@ -1,16 +1,17 @@
 -- The order in which document 01 looks for the next clause comes to the same as skipping the comments and line ends first. Assumes nothing.
-use Prim.Native.Nat.{ℕ, zero, suc, _-_, _<_}
+use Prim.Native.Nat.{ℕ, zero, suc, _+_, _-_, _<_}
+use Prim.Native.Char.{code}
 use mathlib.Core.Bool.{Bool, true, false, cond, not, _&&_, _||_}
 use mathlib.Core.List.{List}
 use mathlib.Core.Path.{_≡_, refl, sym, _∙_}
 use mathlib.Core.Logic.{_⊎_, inl, inr}
 use native.Mathlib.Omega.{arith}
-use borrow.Author.Tests.{eq-eqb, eqb-true, eqb-false}
+use borrow.Author.Tests.{eq-eqb, ne-eqb, eqb-true, eqb-false}
 use lib.Dec.{leb, eqb}
 use lib.ListN.{length, getD}
 use Rattle.dimacs.specs.Loop.{Step, again, answer, loop}
 use Rattle.dimacs.specs.Names.{largest}
-use Rattle.dimacs.specs.Tokens.{none, unmoved, blanks, lineEnd, comment, newline, commentOrNewline, lines, unsigned, uintAt, bracedUintAt, intAt}
+use Rattle.dimacs.specs.Tokens.{none, unmoved, byteAt, blanks, lineEnd, nextLine, newline, linePast, commentOrNewline, lines, unsigned, uintAt, bracedUintAt, intAt}
 use Rattle.dimacs.specs.Clauses.{Answered, instead, absent, startAt, clauseAt}
 use Rattle.dimacs.specs.Texts.{nextClause}
 use Rattle.dimacs.specs.declared.Format.{Format}
@@ -22,11 +23,11 @@ use Rattle.dimacs.specs.declared.Int.{Int}
 use Rattle.dimacs.specs.declared.Int.the-variants as int
 use Rattle.dimacs.specs.declared.Uint.{Uint}
 use Rattle.dimacs.specs.declared.Uint.the-variants as uint
-use Rattle.dimacs.proofs.Tests.{tested}
+use Rattle.dimacs.proofs.Tests.{tested, chosen}
 use Rattle.dimacs.proofs.Bytes.{and-false}
 use Rattle.dimacs.proofs.Loops.{after, loop-after}
-use Rattle.dimacs.proofs.Spans.{standing, moved, comment-spans, newline-spans, lines-step}
-use Rattle.dimacs.proofs.Lines.{line-end-no, newline-no, comment-no}
+use Rattle.dimacs.proofs.Spans.{Spans, standing, moved, blanks-spans, line-end-spans, next-line-spans, newline-spans, lines-step}
+use Rattle.dimacs.proofs.Lines.{line-end-no, newline-no}
 use Rattle.dimacs.proofs.Numbers.{read-none, read-low, read-high, unsigned-none, minus-no, braced-no, int-missing}
 use Rattle.dimacs.proofs.Literals.{literals-none}
 
@@ -81,6 +82,31 @@ module _ (s : List ℕ) (limits : Limits) where
   no-clause room Weighted absence at h = rw (no-uint (uintAt s largest at) h)
   no-clause room Grouped absence at h = rw (no-uint (bracedUintAt s (limits .groups) at) h)
 
+module _ (s : List ℕ) where
+  -- A comment is `c` and all up to the next line, then blanks.
+  unfoldable pub comment : ℕ → ℕ
+  comment at = cond (eqb (byteAt s at) (code "c")) (blanks s (nextLine s (at + 1))) at
+
+  -- A comment, else a line end with the blanks after it, is what a step of `lines` takes.
+  pub lines-in-order : (at : ℕ)
+      → lines s at ≡ after (cond (unmoved at (comment at)) (cond (unmoved at (newline s at)) (answer at) (again (newline s at))) (again (comment at))) (lines s)
+  unfolding commentOrNewline linePast comment newline
+  lines-in-order at =
+      let n = nextLine s (at + 1) in
+      let l = lineEnd s at in
+      lines-step s at
+      ∙ tested (eqb (byteAt s at) (code "c"))
+      (λ c. rw (c, ne-eqb n at (λ z. omega (arith, next-line-spans s (at + 1))), ne-eqb (blanks s n) at (λ z. omega (arith, next-line-spans s (at + 1), blanks-spans s n))))
+      (λ c. rw (c, eq-eqb at at refl)
+      (tested (unmoved at l) (λ e. rw (e, eq-eqb at at refl))
+      (λ e. rw (e, ne-eqb (blanks s l) at (λ z. omega (arith, eqb-false l at e, line-end-spans s at, blanks-spans s l))))))
+
+  comment-spans : (at : ℕ) → Spans s at (comment at)
+  unfolding comment
+  comment-spans at =
+      chosen (Spans s at) (eqb (byteAt s at) (code "c"))
+      (λ e. let l = standing s at 98 e in omega (arith, next-line-spans s (at + 1), blanks-spans s (nextLine s (at + 1)))) (λ _. omega arith)
+
 -- The bytes with which a comment or a line end begins: `c`, CR and LF.
 abbrev pub OpensLine : ℕ → Type 0
 OpensLine b = (b ≡ 99) ⊎ ((b ≡ 13) ⊎ (b ≡ 10))
@@ -94,10 +120,14 @@ module _ (s : List ℕ) (at : ℕ) where
   line-bare (inr (inr h)) =
       record { number = unsigned-none (read-low (read-none s at) (standing s at 9 (eq-eqb _ _ h)) (omega arith)) refl; minus = λ e. omega arith; brace = λ e. omega arith }
 
+  comment-no : (getD s at 0 ≡ 99 → ⊥) → comment s at ≡ at
+  unfolding comment
+  comment-no h = rw (ne-eqb (getD s at 0) 99 h)
+
   comment-opens : unmoved at (comment s at) ≡ false → OpensLine (getD s at 0)
   comment-opens h =
       tested (eqb (getD s at 0) 99) (λ e. inl (eqb-true (getD s at 0) 99 e))
-      (λ e. unlike (sym (eq-eqb (comment s at) at (comment-no s at (eqb-false (getD s at 0) 99 e))) ∙ h))
+      (λ e. unlike (sym (eq-eqb (comment s at) at (comment-no (eqb-false (getD s at 0) 99 e))) ∙ h))
 
   newline-opens : unmoved at (newline s at) ≡ false → OpensLine (getD s at 0)
   newline-opens h =
@@ -141,15 +171,14 @@ module _ (s : List ℕ) (f : Format) (limits : Limits) (room count : ℕ) where
   by-count false false at = tested (stands s limits f at) (λ h. rw h) (λ h. rw (h, no-clause s limits room f NoClause at h))
 
   in-order : (over : Answered) (n at : ℕ) → length s - at < n → loop inOrder over n at ≡ tried (lines s at)
-  unfolding commentOrNewline
   in-order over zero at h = absurd (omega arith)
   in-order over (suc n) at h =
       loop-after inOrder over n at
       ∙ tested (unmoved at (comment s at))
       (λ c. tested (unmoved at (newline s at))
-      (λ d. rw (lines-step s at, c, d) (go (mayGoOn && stands s limits f at) (clauseAt s limits room f mayEnd at) (instead (absent s mayEnd at)) (by-count (eqb (limits .clauses) 0) (leb (limits .clauses) count) at)))
-      (λ d. rw (lines-step s at, skips (newline-opens s at d), c, d) (in-order over n (newline s at) (omega (arith, moved (newline-spans s at) d)))))
-      (λ c. rw (lines-step s at, skips (comment-opens s at c), c) (in-order over n (comment s at) (omega (arith, moved (comment-spans s at) c))))
+      (λ d. rw (lines-in-order s at, c, d) (go (mayGoOn && stands s limits f at) (clauseAt s limits room f mayEnd at) (instead (absent s mayEnd at)) (by-count (eqb (limits .clauses) 0) (leb (limits .clauses) count) at)))
+      (λ d. rw (lines-in-order s at, skips (newline-opens s at d), c, d) (in-order over n (newline s at) (omega (arith, moved (newline-spans s at) d)))))
+      (λ c. rw (lines-in-order s at, skips (comment-opens s at c), c) (in-order over n (comment s at) (omega (arith, moved (comment-spans s at) c))))
     where
       skips : OpensLine (getD s at 0) → mayGoOn && stands s limits f at ≡ false
       skips o = and-false mayGoOn (stands s limits f at) (bare-none s limits f at (line-bare s at o))

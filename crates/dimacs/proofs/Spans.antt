@@ -1,19 +1,16 @@
 -- Where tokens end: a token leads on and never past the end of the text, so one that stands moves the place within it. Assumes nothing.
-use Prim.Native.Nat.{ℕ, zero, suc, _+_, _-_, _≤_, _<_, min, max}
+use Prim.Native.Nat.{ℕ, suc, _+_, _-_, _≤_, _<_, min, max}
 use Prim.Native.Char.{code}
 use mathlib.Core.Bool.{Bool, true, false, cond, _&&_}
 use mathlib.Core.List.{List, [], _∷_}
-use mathlib.Core.Path.{_≡_, refl, ap, sym, _∙_, subst}
-use mathlib.Core.Logic.{_⊎_, inl, inr, ⊎-elim}
+use mathlib.Core.Path.{_≡_, refl}
 use native.Mathlib.Omega.{arith}
 use borrow.Author.Tests.{ltb-true, ltb-false, leb-true, leb-false, eqb-true, eqb-false}
 use lib.Dec.{ltb, leb, eqb}
-use lib.ListN.{length, getD, drop, length-drop, List·getD-eq-default}
-use lib.IntN.{ℤ}
-use Rattle.dimacs.specs.Loop.{Step, again, answer}
+use lib.ListN.{length, drop, length-drop, List·getD-eq-default}
 use Rattle.dimacs.specs.Bytes.{bytes, LF, CR, isBlank, isDigit, isNotLF}
 use Rattle.dimacs.specs.Names.{ceiling}
-use Rattle.dimacs.specs.Tokens.{run, past, begins, decimal, unmoved, Number, none, found, byteAt, blanks, lineEnd, nextLine, endOfLine, fixed, wordEnds, word, comment, strictComment, newline, commentOrNewline, lines, linebreaks, unsigned, braced, minus, upTo, upToEitherWay, uintAt, bracedUintAt, intAt}
+use Rattle.dimacs.specs.Tokens.{run, past, begins, unmoved, Number, none, found, byteAt, blanks, lineEnd, nextLine, endOfLine, fixed, wordEnds, word, strictComment, newline, linePast, commentOrNewline, lines, linebreaks, unsigned, braced, minus, upTo, upToEitherWay, uintAt, bracedUintAt, intAt}
 use Rattle.dimacs.specs.declared.Uint.{Uint}
 use Rattle.dimacs.specs.declared.Uint.the-variants as uint
 use Rattle.dimacs.specs.declared.Int.{Int}
@@ -96,15 +93,6 @@ module _ (s : List ℕ) where
       chosen (Spans s at) (unmoved at (fixed s w at)) (λ _. omega arith)
       (λ _. chosen (Spans s at) (wordEnds s (fixed s w at)) (λ _. then-spans (fixed-spans s at w) (blanks-spans (fixed s w at))) (λ _. omega arith))
 
-  pub comment-spans : (at : ℕ) → Spans s at (comment s at)
-  unfolding comment
-  comment-spans at =
-      chosen (Spans s at) (eqb (byteAt s at) (code "c"))
-      (λ e. let l = standing s at 98 e in
-      let h : Spans s at (at + 1) = omega arith in
-      then-spans h (then-spans (next-line-spans s (at + 1)) (blanks-spans (nextLine s (at + 1)))))
-      (λ _. omega arith)
-
   pub strict-comment-spans : (at : ℕ) → Spans s at (strictComment s at)
   unfolding strictComment
   strict-comment-spans at =
@@ -116,12 +104,19 @@ module _ (s : List ℕ) where
   newline-spans at =
       chosen (Spans s at) (unmoved at (lineEnd s at)) (λ _. omega arith) (λ _. then-spans (line-end-spans s at) (blanks-spans (lineEnd s at)))
 
+  pub line-past-spans : (at : ℕ) → Spans s at (linePast s at)
+  unfolding linePast
+  line-past-spans at =
+      chosen (Spans s at) (eqb (byteAt s at) (code "c"))
+      (λ e. let l = standing s at 98 e in omega (arith, next-line-spans s (at + 1))) (λ _. line-end-spans s at)
+
+  -- A comment or line end that stands is left behind, with the blanks after it.
+  pub line-past-moved : (at : ℕ) → unmoved at (linePast s at) ≡ false → length s - blanks s (linePast s at) < length s - at
+  line-past-moved at e = omega (arith, moved (line-past-spans at) e, blanks-spans (linePast s at))
+
   lines-falls : (at : ℕ) → Falls (λ i. length s - i) at (commentOrNewline s at)
   unfolding commentOrNewline
-  lines-falls at =
-      chosen (Falls (λ i. length s - i) at) (unmoved at (comment s at))
-      (λ _. chosen (Falls (λ i. length s - i) at) (unmoved at (newline s at)) (λ _. tt) (λ e. moved (newline-spans at) e))
-      (λ e. moved (comment-spans at) e)
+  lines-falls at = chosen (Falls (λ i. length s - i) at) (unmoved at (linePast s at)) (λ _. tt) (λ e. line-past-moved at e)
 
   -- One comment or line end, and then the rest of them.
   pub lines-step : (at : ℕ) → lines s at ≡ after (commentOrNewline s at) (lines s)
@@ -135,9 +130,8 @@ module _ (s : List ℕ) where
     where
       on : (i : ℕ) → Spans s at i → Leads (Spans s at) (Spans s at) (commentOrNewline s i)
       on i h =
-          chosen (Leads (Spans s at) (Spans s at)) (unmoved i (comment s i))
-          (λ _. chosen (Leads (Spans s at) (Spans s at)) (unmoved i (newline s i)) (λ _. h) (λ _. then-spans h (newline-spans i)))
-          (λ _. then-spans h (comment-spans i))
+          chosen (Leads (Spans s at) (Spans s at)) (unmoved i (linePast s i)) (λ _. h)
+          (λ _. then-spans h (then-spans (line-past-spans i) (blanks-spans (linePast s i))))
 
   pub linebreaks-spans : (at : ℕ) → Spans s at (linebreaks s at)
   unfolding linebreaks

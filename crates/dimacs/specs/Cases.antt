@@ -8,7 +8,7 @@ use lib.IntN.{ℤ, pos, negsuc}
 use Rattle.dimacs.specs.Loop.{loop, said}
 use Rattle.dimacs.specs.Bytes.{bytes}
 use Rattle.dimacs.specs.Names.{numbered}
-use Rattle.dimacs.specs.Tokens.{run, past, begins, decimal, lineEnd, nextLine, endOfLine, fixed, wordEnds, word, comment, strictComment, newline, commentOrNewline, lines, linebreaks, unsigned, braced, minus, uintAt, bracedUintAt, intAt, stoppedAt}
+use Rattle.dimacs.specs.Tokens.{run, past, begins, decimal, lineEnd, nextLine, endOfLine, fixed, wordEnds, word, strictComment, newline, linePast, commentOrNewline, lines, linebreaks, unsigned, braced, minus, uintAt, bracedUintAt, intAt, stoppedAt}
 use Rattle.dimacs.specs.Header.{headerOf, headerEnd, thirdThere, thirdCount, clauseCount, variableCount, afterP, openingOf}
 use Rattle.dimacs.specs.Rows.{nextInt, row}
 use Rattle.dimacs.specs.Clauses.{nextRow, literalsFrom, literals, Answer, clause, ended, refused, absent, startAt, closing, clauseAt}
@@ -72,7 +72,7 @@ linesBy Log m room s = logLines (log s m room)
 
 -- What the definition says of a case's text.
 pub linesOf : Case → List Line
-unfolding loop said numbered run past begins decimal lineEnd nextLine endOfLine fixed wordEnds word comment strictComment newline commentOrNewline lines linebreaks unsigned braced minus uintAt bracedUintAt intAt headerEnd thirdThere thirdCount clauseCount variableCount afterP openingOf nextInt row nextRow literalsFrom literals absent startAt closing clauseAt nextClause answerAt turn answersFrom text valueLine solutionLine logLine logFrom log
+unfolding loop said numbered run past begins decimal lineEnd nextLine endOfLine fixed wordEnds word strictComment newline linePast commentOrNewline lines linebreaks unsigned braced minus uintAt bracedUintAt intAt headerEnd thirdThere thirdCount clauseCount variableCount afterP openingOf nextInt row nextRow literalsFrom literals absent startAt closing clauseAt nextClause answerAt turn answersFrom text valueLine solutionLine logLine logFrom log
 linesOf c = linesBy (c .kind) (c .mode) (c .room) (bytes (c .quoted))
 
 -- The definition says of every text in the table what is expected.

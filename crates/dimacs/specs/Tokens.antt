@@ -103,10 +103,6 @@ module _ (s : List ℕ) where
   unfoldable pub word : List ℕ → ℕ → ℕ
   word w at = let e = fixed w at in cond (unmoved at e) at (cond (wordEnds e) (blanks e) at)
 
-  -- A comment is `c` and all up to the next line, then blanks.
-  unfoldable pub comment : ℕ → ℕ
-  comment at = cond (eqb (byteAt at) (code "c")) (blanks (nextLine (at + 1))) at
-
   -- A log's comment is `c`, a space and all up to the next line.
   unfoldable pub strictComment : ℕ → ℕ
   strictComment at = let e = fixed (bytes "c ") at in cond (unmoved at e) at (nextLine e)
@@ -115,10 +111,13 @@ module _ (s : List ℕ) where
   unfoldable pub newline : ℕ → ℕ
   newline at = let e = lineEnd at in cond (unmoved at e) at (blanks e)
 
-  -- One comment, else one line end.
+  -- Past a comment, which is `c` and all up to the next line, or past a line end.
+  unfoldable pub linePast : ℕ → ℕ
+  linePast at = cond (eqb (byteAt at) (code "c")) (nextLine (at + 1)) (lineEnd at)
+
+  -- One comment or line end, and the blanks after it.
   unfoldable pub commentOrNewline : ℕ → Step ℕ ℕ
-  commentOrNewline at =
-      cond (unmoved at (comment at)) (cond (unmoved at (newline at)) (answer at) (again (newline at))) (again (comment at))
+  commentOrNewline at = let e = linePast at in cond (unmoved at e) (answer at) (again (blanks e))
 
   -- Comments and line ends, as many as there are.
   unfoldable pub lines : ℕ → ℕ

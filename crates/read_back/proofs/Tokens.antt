@@ -11,13 +11,13 @@ use lib.ListN.{length, getD}
 use lib.IntN.{ℤ, pos, negsuc}
 use Rattle.dimacs.specs.Bytes.{isBlank, isDigit, isStop}
 use Rattle.dimacs.specs.Names.{ceiling}
-use Rattle.dimacs.specs.Tokens.{run, begins, unmoved, found, blanks, endOfLine, wordEnds, word, newline, lines, linebreaks, unsigned, minus, uintAt, bracedUintAt, intAt}
+use Rattle.dimacs.specs.Tokens.{run, begins, unmoved, found, blanks, lineEnd, endOfLine, wordEnds, word, lines, linebreaks, unsigned, minus, uintAt, bracedUintAt, intAt}
 use Rattle.dimacs.specs.Writing.{digits, signedDigits}
 use Rattle.dimacs.specs.declared.Uint.the-variants as uint
 use Rattle.dimacs.specs.declared.Int.the-variants as int
 use Rattle.dimacs.specs.declared.EndOfLine.the-variants as end
 use Rattle.dimacs.proofs.Bytes.{no-blank}
-use Rattle.dimacs.proofs.Lines.{line-end-LF, line-end-no, end-at-line, newline-no, comment-no, lines-stop, linebreaks-no}
+use Rattle.dimacs.proofs.Lines.{line-end-LF, line-end-no, end-at-line, newline-no, line-past-end, lines-stop, linebreaks-no}
 use Rattle.dimacs.proofs.Words.{word-ends-at, fixed-no, fixed-is, word-none, word-is}
 use Rattle.dimacs.proofs.Spans.{blanks-spans}
 use Rattle.dimacs.proofs.Numbers.{All, decimal-none, unsigned-found, minus-is, minus-no, braced-found, by-value, int-zero, int-positive, int-negative}
@@ -176,16 +176,16 @@ pub spaced : (r : List ℕ) → Bare (getD r 0 0) → Parts (code " " ∷ r) r
 spaced r b = space (bare-blank b)
 
 module _ {s : List ℕ} (r : List ℕ) (b : Bare (getD r 0 0)) (h : Ends s r) where
-  no-newline : start s r ≡ newline s (start s r)
-  no-newline =
+  no-line-end : lineEnd s (start s r) ≡ start s r
+  no-line-end =
       let at = start s r in
       let e = byte-start h in
-      sym (newline-no s at at (sym (line-end-no s at (λ z. b .LF (sym e ∙ z)) (λ z. absurd (b .CR (sym e ∙ z))))) refl)
+      line-end-no s at (λ z. b .LF (sym e ∙ z)) (λ z. absurd (b .CR (sym e ∙ z)))
 
   pub lines-none : lines s (blanks s (start s r)) ≡ start s r
   lines-none =
       let at = start s r in
-      rw (blanks-none r (bare-blank b) h) (lines-stop s at at (sym (comment-no s at (λ z. b .c (sym (byte-start h) ∙ z)))) refl at no-newline refl)
+      rw (blanks-none r (bare-blank b) h) (lines-stop s at at (sym (line-past-end s at (λ z. b .c (sym (byte-start h) ∙ z)) ∙ no-line-end)) refl)
 
   pub linebreaks-none : linebreaks s (start s r) ≡ start s r
-  linebreaks-none = linebreaks-no s (start s r) (start s r) no-newline refl
+  linebreaks-none = let at = start s r in linebreaks-no s at at (sym (newline-no s at at (sym no-line-end) refl)) refl

@@ -1,14 +1,14 @@
 -- The word a reader stopped at: what a search for its end keeps, and the part of the text that it is. Assumes nothing.
-use Prim.Native.Nat.{ℕ, zero, suc, _+_, _-_, _≤_, _<_, min}
-use mathlib.Core.Bool.{Bool, true, false, not, cond, _||_}
+use Prim.Native.Nat.{ℕ, suc, _+_, _-_, _≤_, _<_, min}
+use mathlib.Core.Bool.{Bool, true, false, not}
 use mathlib.Core.List.{List, []}
 use mathlib.Core.Path.{_≡_, refl, ap, sym, _∙_}
 use native.Mathlib.Omega.{arith}
 use borrow.Author.Tests.{eq-eqb, ne-eqb, lt-leb}
-use lib.Dec.{leb, eqb}
+use lib.Dec.{eqb}
 use lib.ListN.{length, getD, take, drop, drop-of-length-le}
 use lib.Seq.{take-nil}
-use Rattle.dimacs.specs.Bytes.{isStop, isNotStop}
+use Rattle.dimacs.specs.Bytes.{isNotStop}
 use Rattle.dimacs.specs.Names.{longestWord}
 use Rattle.dimacs.specs.Tokens.{run, past, lineEnd, wordEnds, stoppedAt}
 use Rattle.dimacs.proofs.Tests.{chosen}

@@ -3,8 +3,8 @@
 ghost use mathlib.Core.Path.{_≡_};
 ghost use Prim.Native.Nat.{_<_};
 ghost use lib.ListN.{length};
-ghost use Rattle.dimacs.specs.Tokens.{atEnd, blanks, lineEnd, nextLine, endOfLine, fixed, wordEnds, word, comment, strictComment, newline, lines, linebreaks, stoppedAt};
-ghost use Rattle.token.specs.Parts.{linePast, PastWord};
+ghost use Rattle.dimacs.specs.Tokens.{atEnd, blanks, lineEnd, nextLine, endOfLine, fixed, wordEnds, word, strictComment, newline, linePast, lines, linebreaks, stoppedAt};
+ghost use Rattle.token.specs.Parts.{PastWord};
 use dimacs::EndOfLine;
 use dimacs::LONGEST_WORD;
 
@@ -137,18 +137,6 @@ pub fn newline(text: &[u8], at: usize) -> usize
     skip_whitespace(text, past)
 }
 
-// Past a comment and the blanks after it.
-pub fn comment(text: &[u8], at: usize) -> usize
-    ensures { λ r. ⌜ r ≡ comment (now (text .entry)) at ⌝ }
-{
-    if at < text.len() {
-        if text[at] == b'c' {
-            return skip_whitespace(text, interactive_skip_line(text, at + 1));
-        }
-    }
-    at
-}
-
 // Past a comment of a log.
 pub fn interactive_strict_comment(text: &[u8], at: usize) -> usize
     ensures { λ r. ⌜ r ≡ strictComment (now (text .entry)) at ⌝ }
@@ -161,7 +149,7 @@ pub fn interactive_strict_comment(text: &[u8], at: usize) -> usize
 }
 
 // Past a comment or a line end, without the blanks after it.
-fn line_past(text: &[u8], at: usize) -> usize
+pub fn line_past(text: &[u8], at: usize) -> usize
     ensures { λ r. ⌜ r ≡ linePast (now (text .entry)) at ⌝ }
 {
     if at < text.len() {

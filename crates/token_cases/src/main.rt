@@ -1,7 +1,7 @@
-// Prints what each token function answers for the cases on standard input.
+// Prints what each token function that answers a place, a test or a number says of the cases on standard input.
 //
 // A case is the text's length as one byte, the text, and then the place
-// and the limit as eight bytes each, little-endian. A line has the answers of all functions in the order below: a place as it is, a test as 0 or 1,
+// and the limit as eight bytes each, little-endian. A line has their answers in the order below: a place as it is, a test as 0 or 1,
 // a number as `value@place`, `-` where there is none and `!` where it is too big.
 ghost use Prim.Native.Nat.{_≤_};
 use dimacs::EndOfLine;
@@ -77,7 +77,7 @@ fn answers(text: &[u8], at: usize, limit: u64) {
     place(token::interactive_newline(text, at));
     end_of_line(token::interactive_end_of_line(text, at));
     place(token::newline(text, at));
-    place(token::comment(text, at));
+    place(token::line_past(text, at));
     place(token::interactive_strict_comment(text, at));
     place(token::comments_and_newlines(text, at));
     place(token::non_terminating_linebreaks(text, at));

@@ -3,7 +3,7 @@ use Prim.Native.Nat.{_-_}
 use mathlib.Core.Path.{_≡_, refl, sym, _∙_}
 use lib.ListN.{length}
 use Rattle.dimacs.specs.Tokens.{lines}
-use Rattle.token.proofs.Parts.{lines-end, lines-on}
+use Rattle.dimacs.proofs.Lines.{lines-stop, lines-on}
 use borrow.Author.Needs.{needs}
 use Rattle.token.proofs.comments_and_newlines.Statement.{statement}
 use Rattle.token.proofs.comments_and_newlines.Tie as tie
@@ -21,7 +21,7 @@ line-past-requires : tie.Need-line-past-requires Inv-loop μ-loop
 line-past-requires c κs = search needs
 
 returns : tie.Need-returns Inv-loop μ-loop
-returns c = sym (lines-end _ _ _ (c .before .line-past .ensures) (c .if1 .taken)) ∙ c .before .before .loop .inv
+returns c = sym (lines-stop _ _ _ (c .before .line-past .ensures) (c .if1 .taken)) ∙ c .before .before .loop .inv
 
 skip-whitespace-requires : tie.Need-skip-whitespace-requires Inv-loop μ-loop
 skip-whitespace-requires c κs = search needs
