@@ -38,13 +38,13 @@ pub is-LF : (b : ℕ) → b ≡ 10 → isNotLF b ≡ false
 is-LF b h = rw (eq-eqb b 10 h)
 
 -- The stops in two pairs, as a `match` has them: next to each other 9 and 10 would be a range.
-pub is-stop : (b : ℕ) → (b ≡ 10) ⊎ (b ≡ 32) → isStop b ≡ true
-is-stop b (inl h) = or-true (isBlank b) (eqb b 13 || eqb b 10) (or-true (eqb b 13) (eqb b 10) (eq-eqb b 10 h))
-is-stop b (inr h) = rw (is-blank b (inr h))
+pub is-stop-LF-space : (b : ℕ) → (b ≡ 10) ⊎ (b ≡ 32) → isStop b ≡ true
+is-stop-LF-space b (inl h) = or-true (isBlank b) (eqb b 13 || eqb b 10) (or-true (eqb b 13) (eqb b 10) (eq-eqb b 10 h))
+is-stop-LF-space b (inr h) = rw (is-blank b (inr h))
 
-pub is-stop-too : (b : ℕ) → (b ≡ 9) ⊎ (b ≡ 13) → isStop b ≡ true
-is-stop-too b (inl h) = rw (is-blank b (inl h))
-is-stop-too b (inr h) = or-true (isBlank b) (eqb b 13 || eqb b 10) (rw (eq-eqb b 13 h))
+pub is-stop-tab-CR : (b : ℕ) → (b ≡ 9) ⊎ (b ≡ 13) → isStop b ≡ true
+is-stop-tab-CR b (inl h) = rw (is-blank b (inl h))
+is-stop-tab-CR b (inr h) = or-true (isBlank b) (eqb b 13 || eqb b 10) (rw (eq-eqb b 13 h))
 
 pub no-stop : (b : ℕ) → ((b ≡ 10) ⊎ (b ≡ 32) → ⊥) → ((b ≡ 9) ⊎ (b ≡ 13) → ⊥) → isStop b ≡ false
 no-stop b h k = rw (ne-eqb b 9 (λ e. k (inl e)), ne-eqb b 32 (λ e. h (inr e)), ne-eqb b 13 (λ e. k (inr e)), ne-eqb b 10 (λ e. h (inl e)))

@@ -64,15 +64,15 @@ module _ {s : List ℕ} {at i v : ℕ} (r : Read s at i v) where
     read-above bound l =
         record { ends = r .ends; above = omega (arith, decimal-on (v * 10 + (getD s i 0 - 48)) (drop (i + 1) s), decimal-more, r .value) }
 
-  stop : i < length s → isDigit (getD s i 0) ≡ false → All s at i v
+  read-stop : i < length s → isDigit (getD s i 0) ≡ false → All s at i v
   unfolding decimal
-  stop h n = record { ends = sym (r .ends) ∙ past-stop isDigit s i h n; value = sym (r .value) ∙ rw (drop-cons s i 0 h, n) }
+  read-stop h n = record { ends = sym (r .ends) ∙ past-stop isDigit s i h n; value = sym (r .value) ∙ rw (drop-cons s i 0 h, n) }
 
   pub read-low : i < length s → getD s i 0 < 48 → All s at i v
-  read-low h l = stop h (below-digit (getD s i 0) l)
+  read-low h l = read-stop h (below-digit (getD s i 0) l)
 
   pub read-high : i < length s → 57 < getD s i 0 → All s at i v
-  read-high h l = stop h (above-digit (getD s i 0) l)
+  read-high h l = read-stop h (above-digit (getD s i 0) l)
 
   pub read-end : length s ≤ i → All s at i v
   unfolding decimal

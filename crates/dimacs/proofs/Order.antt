@@ -58,7 +58,7 @@ no-uint (uint.Value n e) h = unlike h
 no-uint uint.TooBig h = unlike h
 
 -- Neither a number, a minus nor a brace stands there.
-pub record Bare (s : List ℕ) (at : ℕ) : Type 0 where
+pub record NoNumber (s : List ℕ) (at : ℕ) : Type 0 where
   pub number : unsigned s at ≡ none
   pub minus : getD s at 0 ≡ 45 → ⊥
   pub brace : getD s at 0 ≡ 123 → ⊥
@@ -70,11 +70,11 @@ module _ (s : List ℕ) (limits : Limits) where
   stands Weighted at = isUint (uintAt s largest at)
   stands Grouped at = isUint (bracedUintAt s (limits .groups) at)
 
-  pub bare-none : (f : Format) (at : ℕ) → Bare s at → stands f at ≡ false
+  pub none-stands : (f : Format) (at : ℕ) → NoNumber s at → stands f at ≡ false
   unfolding uintAt bracedUintAt
-  bare-none Plain at b = rw (sym (int-missing s (limits .literals) at at (sym (minus-no s at (b .minus))) (b .number)))
-  bare-none Weighted at b = rw (b .number)
-  bare-none Grouped at b = rw (braced-no s at (b .brace))
+  none-stands Plain at b = rw (sym (int-missing s (limits .literals) at at (sym (minus-no s at (b .minus))) (b .number)))
+  none-stands Weighted at b = rw (b .number)
+  none-stands Grouped at b = rw (braced-no s at (b .brace))
 
   pub no-clause : (room : ℕ) (f : Format) (absence : Absence) (at : ℕ) → stands f at ≡ false → clauseAt s limits room f absence at ≡ instead (absent s absence at)
   unfolding clauseAt startAt
@@ -112,12 +112,12 @@ abbrev pub OpensLine : ℕ → Type 0
 OpensLine b = (b ≡ 99) ⊎ ((b ≡ 13) ⊎ (b ≡ 10))
 
 module _ (s : List ℕ) (at : ℕ) where
-  line-bare : OpensLine (getD s at 0) → Bare s at
-  line-bare (inl h) =
+  line-no-number : OpensLine (getD s at 0) → NoNumber s at
+  line-no-number (inl h) =
       record { number = unsigned-none (read-high (read-none s at) (standing s at 98 (eq-eqb _ _ h)) (omega arith)) refl; minus = λ e. omega arith; brace = λ e. omega arith }
-  line-bare (inr (inl h)) =
+  line-no-number (inr (inl h)) =
       record { number = unsigned-none (read-low (read-none s at) (standing s at 12 (eq-eqb _ _ h)) (omega arith)) refl; minus = λ e. omega arith; brace = λ e. omega arith }
-  line-bare (inr (inr h)) =
+  line-no-number (inr (inr h)) =
       record { number = unsigned-none (read-low (read-none s at) (standing s at 9 (eq-eqb _ _ h)) (omega arith)) refl; minus = λ e. omega arith; brace = λ e. omega arith }
 
   comment-no : (getD s at 0 ≡ 99 → ⊥) → comment s at ≡ at
@@ -140,7 +140,7 @@ module _ (s : List ℕ) (at : ℕ) where
 -- No clause begins with one of them.
 pub no-clause-at-line : (s : List ℕ) (limits : Limits) (room : ℕ) (f : Format) (absence : Absence) (at : ℕ) → OpensLine (getD s at 0)
     → clauseAt s limits room f absence at ≡ instead (absent s absence at)
-no-clause-at-line s limits room f absence at o = no-clause s limits room f absence at (bare-none s limits f at (line-bare s at o))
+no-clause-at-line s limits room f absence at o = no-clause s limits room f absence at (none-stands s limits f at (line-no-number s at o))
 
 module _ (s : List ℕ) (f : Format) (limits : Limits) (room count : ℕ) where
   -- The end may come if the count is not applied, or is reached.
@@ -181,7 +181,7 @@ module _ (s : List ℕ) (f : Format) (limits : Limits) (room count : ℕ) where
       (λ c. rw (lines-in-order s at, skips (comment-opens s at c), c) (in-order over n (comment s at) (omega (arith, moved (comment-spans s at) c))))
     where
       skips : OpensLine (getD s at 0) → mayGoOn && stands s limits f at ≡ false
-      skips o = and-false mayGoOn (stands s limits f at) (bare-none s limits f at (line-bare s at o))
+      skips o = and-false mayGoOn (stands s limits f at) (none-stands s limits f at (line-no-number s at o))
 
       go : (t : Bool) (x y : Answered) {z : Answered} → cond t x y ≡ z → after (cond t (answer x) (answer y)) (loop inOrder over n) ≡ z
       go true x y e = e

@@ -20,7 +20,7 @@ use Rattle.dimacs.specs.declared.Final.the-variants as final
 use Rattle.dimacs.proofs.Tests.{chosen}
 use Rattle.dimacs.proofs.Lines.{no-byte}
 use Rattle.dimacs.proofs.Numbers.{read-none, read-end, unsigned-none}
-use Rattle.dimacs.proofs.Order.{bare-none, no-clause}
+use Rattle.dimacs.proofs.Order.{none-stands, no-clause}
 use Rattle.dimacs.proofs.Texts.{answers-step}
 use Rattle.read_back.specs.ReadBack.{Each, Clause, ClauseFits, answerOf, clauseLines}
 use Rattle.read_back.proofs.Ends.{Ends, start, ends-past, start-fits}
@@ -38,7 +38,7 @@ module _ (s : List ℕ) (at : ℕ) (h : length s ≤ at) where
 
   clause-none : (f : Format) (limits : Limits) (room : ℕ) → clauseAt s limits room f MayEnd at ≡ says ended at
   clause-none f limits room =
-      no-clause s limits room f MayEnd at (bare-none s limits f at (record { number = no-number; minus = no-byte s at 44 h; brace = no-byte s at 122 h })) ∙ end-permitted
+      no-clause s limits room f MayEnd at (none-stands s limits f at (record { number = no-number; minus = no-byte s at 44 h; brace = no-byte s at 122 h })) ∙ end-permitted
 
 pub lines-open : (f : Format) (cs : List Clause) → Opener (getD (clauseLines f cs) 0 0)
 unfolding clauseLines

@@ -1,6 +1,6 @@
 -- `token::is_end_of_word` meets its contract, case by case. Assumes nothing.
 use mathlib.Core.Path.{sym}
-use Rattle.dimacs.proofs.Bytes.{is-stop, is-stop-too, no-stop}
+use Rattle.dimacs.proofs.Bytes.{is-stop-LF-space, is-stop-tab-CR, no-stop}
 use Rattle.dimacs.proofs.Words.{word-ends-end, word-ends-at}
 use borrow.Author.Needs.{needs}
 use Rattle.token.proofs.is_end_of_word.Statement.{statement}
@@ -10,10 +10,10 @@ shared-slice-read-match : tie.Need-shared-slice-read-match
 shared-slice-read-match c = search needs
 
 returns : tie.Need-returns
-returns c = sym (word-ends-at _ _ _ (c .before .before .if1 .taken) (is-stop _ (c .match .keys1)))
+returns c = sym (word-ends-at _ _ _ (c .before .before .if1 .taken) (is-stop-LF-space _ (c .match .keys1)))
 
 returns-2 : tie.Need-returns-2
-returns-2 c = sym (word-ends-at _ _ _ (c .before .before .if1 .taken) (is-stop-too _ (c .match .keys2)))
+returns-2 c = sym (word-ends-at _ _ _ (c .before .before .if1 .taken) (is-stop-tab-CR _ (c .match .keys2)))
 
 returns-3 : tie.Need-returns-3
 returns-3 c = sym (word-ends-at _ _ _ (c .before .before .if1 .taken) (no-stop _ (c .match .rest .0 .1) (c .match .rest .1)))
