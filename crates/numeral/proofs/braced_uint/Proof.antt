@@ -1,17 +1,45 @@
 -- `numeral::braced_uint` meets its contract: each answer from the braces and what the digits tell. Assumes nothing.
-use mathlib.Core.Path.{sym, _∙_}
+use Prim.Native.Nat.{ℕ, _+_}
+use mathlib.Core.List.{List}
 use Rattle.dimacs.specs.Tokens.{bracedUintAt}
 use Rattle.dimacs.proofs.Lines.{no-byte}
 use Rattle.dimacs.proofs.Numbers.{braced-no, braced-none, braced-open, braced-found, by-none, by-value, by-too-big}
-use Rattle.numeral.proofs.Runs.{told, above-stands}
+use Rattle.numeral.specs.declared.Digits.the-variants as digits
+use Rattle.numeral.proofs.Runs.{DigitsTold, digits-told, above-stands}
 use borrow.Author.Needs.{needs}
 use native.Mathlib.Omega.{arith}
 use Rattle.numeral.proofs.braced_uint.Statement.{statement}
 use Rattle.numeral.proofs.braced_uint.Tie as tie
 
+-- The text and the place of the brace, from where it stands.
+abbrev text-of : tie.Else2 → List ℕ
+text-of c = let at-if1 = c .before .before in at-if1 .before .before .args .text .now
+
+abbrev at-of : tie.Else2 → ℕ
+at-of c = let at-if1 = c .before .before in at-if1 .before .before .args .at
+
+-- Where the digits write a value, the brace before them, and what they tell.
+abbrev at-brace : tie.After-known-told → tie.Else2
+at-brace c = let at-digits = c .before .before .before in at-digits .before
+
+told-value : (c : tie.After-known-told)
+    → DigitsTold (text-of (at-brace c)) (at-of (at-brace c) + 1) (digits.Value (c .before .value .given .0 .0) (c .before .value .given .0 .1 .0))
+told-value c = let at-digits = c .before .before .before in
+    digits-told _ _ (c .before .value .given .1) (at-digits .ascii-digits-multi .ensures)
+
+-- Where it is above 64 bits.
+abbrev at-brace-above : tie.After-known-told2 → tie.Else2
+at-brace-above c = let at-digits = c .before .before .before in at-digits .before
+
+told-above : (c : tie.After-known-told2)
+    → DigitsTold (text-of (at-brace-above c)) (at-of (at-brace-above c) + 1) (digits.Above (c .before .end .given .0 .0))
+told-above c = let at-digits = c .before .before .before in
+    digits-told _ _ (c .before .end .given .1) (at-digits .ascii-digits-multi .ensures)
+
 returns : tie.Need-returns
 unfolding bracedUintAt
-returns c = by-none _ (braced-no _ _ (no-byte (c .before .before .args .text .now) (c .before .before .args .at) 122 (c .if1 .taken)))
+returns c = let a = c .before .before .args in
+    by-none _ (braced-no _ _ (no-byte (a .text .now) (a .at) 122 (c .if1 .taken)))
 
 shared-slice-read-if2 : tie.Need-shared-slice-read-if2
 shared-slice-read-if2 c = search needs
@@ -31,16 +59,18 @@ enum-known-value c = search needs
 
 returns-3 : tie.Need-returns-3
 unfolding bracedUintAt
-returns-3 c = let t = told _ _ (c .before .before .value .given .1) (c .before .before .before .before .ascii-digits-multi .ensures) in
-    by-none _ (braced-none _ _ (c .before .before .before .before .before .if2 .left) (t .0) (c .if3 .taken))
+returns-3 c = let at-value = c .before in
+    by-none _ (braced-none _ _ (at-brace at-value .if2 .left) (told-value at-value .0) (c .if3 .taken))
 
 shared-slice-read-if5 : tie.Need-shared-slice-read-if5
 shared-slice-read-if5 c = search needs
 
 returns-4 : tie.Need-returns-4
 unfolding bracedUintAt
-returns-4 c = let t = told _ _ (c .before .before .before .before .before .before .value .given .1) (c .before .before .before .before .before .before .before .before .ascii-digits-multi .ensures) in
-    by-too-big _ (braced-found _ _ (c .before .before .before .before .before .before .before .before .before .if2 .left) (t .0) (c .before .before .before .before .if3 .left) (c .before .if5 .taken)) (c .if6 .taken)
+returns-4 c = let at-if5 = c .before in
+    let at-if3 = at-if5 .before .before .before in
+    let at-value = at-if3 .before in
+    by-too-big _ (braced-found _ _ (at-brace at-value .if2 .left) (told-value at-value .0) (at-if3 .if3 .left) (at-if5 .if5 .taken)) (c .if6 .taken)
 
 add-skip-whitespace : tie.Need-add-skip-whitespace
 add-skip-whitespace c = search needs
@@ -50,8 +80,11 @@ skip-whitespace-requires c κs = search needs
 
 returns-5 : tie.Need-returns-5
 unfolding bracedUintAt
-returns-5 c = let t = told _ _ (c .before .before .before .before .before .before .before .value .given .1) (c .before .before .before .before .before .before .before .before .before .ascii-digits-multi .ensures) in
-    by-value _ (braced-found _ _ (c .before .before .before .before .before .before .before .before .before .before .if2 .left) (t .0) (c .before .before .before .before .before .if3 .left) (c .before .before .if5 .taken)) (c .before .if6 .left) _ (c .skip-whitespace .ensures)
+returns-5 c = let at-if6 = c .before in
+    let at-if5 = at-if6 .before in
+    let at-if3 = at-if5 .before .before .before in
+    let at-value = at-if3 .before in
+    by-value _ (braced-found _ _ (at-brace at-value .if2 .left) (told-value at-value .0) (at-if3 .if3 .left) (at-if5 .if5 .taken)) (at-if6 .if6 .left) _ (c .skip-whitespace .ensures)
 
 enum-known-end : tie.Need-enum-known-end
 enum-known-end c = search needs
@@ -61,28 +94,33 @@ shared-slice-read-if8 c = search needs
 
 returns-6 : tie.Need-returns-6
 unfolding bracedUintAt
-returns-6 c = let t = told _ _ (c .before .before .before .before .end .given .1) (c .before .before .before .before .before .before .ascii-digits-multi .ensures) in
-    by-too-big _ (braced-found _ _ (c .before .before .before .before .before .before .before .if2 .left) (t .0) (above-stands t) (c .if8 .taken)) (omega (arith, t .1))
+returns-6 c = let at-if7 = c .before .before in
+    let at-above = at-if7 .before in
+    let t = told-above at-above in
+    by-too-big _ (braced-found _ _ (at-brace-above at-above .if2 .left) (t .0) (above-stands t) (c .if8 .taken)) (omega (arith, t .1))
 
 returns-7 : tie.Need-returns-7
 unfolding bracedUintAt
-returns-7 c = let t = told _ _ (c .before .before .before .before .before .value .given .1) (c .before .before .before .before .before .before .before .ascii-digits-multi .ensures) in
-    by-none _ (braced-open _ _ (c .before .before .before .before .before .before .before .before .if2 .left) (t .0) (c .if5 .left))
+returns-7 c = let at-if3 = c .before .before .before in
+    let at-value = at-if3 .before in
+    by-none _ (braced-open _ _ (at-brace at-value .if2 .left) (told-value at-value .0) (c .if5 .left))
 
 returns-8 : tie.Need-returns-8
 unfolding bracedUintAt
-returns-8 c = let t = told _ _ (c .before .before .before .value .given .1) (c .before .before .before .before .before .ascii-digits-multi .ensures) in
-    by-none _ (braced-open _ _ (c .before .before .before .before .before .before .if2 .left) (t .0) (no-byte (c .before .before .before .before .before .before .before .before .before .before .args .text .now) _ 124 (c .if4 .left)))
+returns-8 c = let at-if3 = c .before in
+    let at-value = at-if3 .before in
+    by-none _ (braced-open _ _ (at-brace at-value .if2 .left) (told-value at-value .0) (no-byte (text-of (at-brace at-value)) _ 124 (c .if4 .left)))
 
 returns-9 : tie.Need-returns-9
 unfolding bracedUintAt
-returns-9 c = let t = told _ _ (c .before .before .before .before .end .given .1) (c .before .before .before .before .before .before .ascii-digits-multi .ensures) in
-    by-none _ (braced-open _ _ (c .before .before .before .before .before .before .before .if2 .left) (t .0) (c .if8 .left))
+returns-9 c = let at-if7 = c .before .before in
+    let at-above = at-if7 .before in
+    by-none _ (braced-open _ _ (at-brace-above at-above .if2 .left) (told-above at-above .0) (c .if8 .left))
 
 returns-10 : tie.Need-returns-10
 unfolding bracedUintAt
-returns-10 c = let t = told _ _ (c .before .before .end .given .1) (c .before .before .before .before .ascii-digits-multi .ensures) in
-    by-none _ (braced-open _ _ (c .before .before .before .before .before .if2 .left) (t .0) (no-byte (c .before .before .before .before .before .before .before .before .before .args .text .now) _ 124 (c .if7 .left)))
+returns-10 c = let at-above = c .before in
+    by-none _ (braced-open _ _ (at-brace-above at-above .if2 .left) (told-above at-above .0) (no-byte (text-of (at-brace-above at-above)) _ 124 (c .if7 .left)))
 
 pub braced-uint-spec : {M : Type 1} → statement M
 braced-uint-spec =

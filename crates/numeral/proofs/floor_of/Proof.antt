@@ -1,9 +1,9 @@
--- `number::floor_of` meets its contract: minus the smaller of the limit and the ceiling. Assumes nothing.
+-- `numeral::floor_of` meets its contract: minus the smaller of the limit and the ceiling. Assumes nothing.
 use Prim.Native.Nat.{ℕ, min}
-use mathlib.Core.Path.{_≡_, ap, sym, _∙_}
+use mathlib.Core.Path.{_≡_, ap, _∙_}
 use lib.IntN.{pos, negℤ}
 use Rattle.dimacs.specs.Names.{ceiling}
-use Rattle.numeral.proofs.Negated.{minus-fits, minus-back}
+use Rattle.numeral.proofs.Negated.{negated-fits, negated-back}
 use borrow.Author.Needs.{needs}
 use native.Mathlib.Omega.{arith}
 use Rattle.numeral.proofs.floor_of.Statement.{statement}
@@ -22,12 +22,12 @@ cast-result-2 : tie.Need-cast-result-2
 cast-result-2 c = search needs
 
 sub-result-2 : tie.Need-sub-result-2
-sub-result-2 c = minus-fits (c .before .args .limit) (c .if1 .left)
+sub-result-2 c = negated-fits (c .before .args .limit) (c .if1 .left)
 
 returns-2 : tie.Need-returns-2
 returns-2 c = let n = c .before .args .limit in
     let e : n ≡ min n ceiling = omega arith in
-    minus-back n (c .if1 .left) ∙ ap (λ (n : ℕ). negℤ (pos n)) e
+    negated-back n (c .if1 .left) ∙ ap (λ (n : ℕ). negℤ (pos n)) e
 
 pub floor-of-spec : {M : Type 1} → statement M
 floor-of-spec =

@@ -1,4 +1,4 @@
--- `number::overflows` meets its contract: the largest number is ten times the tenth, and 5. Assumes nothing.
+-- `numeral::overflows` meets its contract: the largest number is ten times the tenth, and 5. Assumes nothing.
 use Prim.Native.Nat.{_+_, _*_}
 use mathlib.Core.Path.{sym, _∙_}
 use lib.Dec.{ltb}

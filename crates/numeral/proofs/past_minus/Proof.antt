@@ -1,4 +1,4 @@
--- `number::past_minus` meets its contract, case by case. Assumes nothing.
+-- `numeral::past_minus` meets its contract, case by case. Assumes nothing.
 use mathlib.Core.Path.{sym}
 use Rattle.dimacs.proofs.Lines.{no-byte}
 use Rattle.dimacs.proofs.Numbers.{minus-is, minus-no}

@@ -1,4 +1,4 @@
--- `number::skip_digits` meets its contract: what is past the digits from i is what is past them from the start. Assumes nothing.
+-- `numeral::skip_digits` meets its contract: what is past the digits from i is what is past them from the start. Assumes nothing.
 use Prim.Native.Nat.{_-_}
 use mathlib.Core.Path.{_≡_, refl, sym, _∙_}
 use lib.ListN.{length}
@@ -26,7 +26,8 @@ returns : tie.Need-returns Inv-loop μ-loop
 returns c = sym (past-stop _ _ _ (c .before .before .loop-test .taken) (below-digit _ (c .if1 .taken))) ∙ c .before .before .before .loop .inv
 
 returns-2 : tie.Need-returns-2 Inv-loop μ-loop
-returns-2 c = sym (past-stop _ _ _ (c .before .before .before .loop-test .taken) (above-digit _ (c .if2 .taken))) ∙ c .before .before .before .before .loop .inv
+returns-2 c = let at-loop-test = c .before .before .before in
+    sym (past-stop _ _ _ (at-loop-test .loop-test .taken) (above-digit _ (c .if2 .taken))) ∙ at-loop-test .before .loop .inv
 
 add-i : tie.Need-add-i Inv-loop μ-loop
 add-i c = omega arith
@@ -35,7 +36,9 @@ loop-less : tie.Need-loop-less Inv-loop μ-loop
 loop-less c = omega arith
 
 loop-again : tie.Need-loop-again Inv-loop μ-loop
-loop-again c = past-more _ _ _ (c .before .before .before .loop-test .taken) (is-digit _ (c .before .if1 .left) (c .if2 .left)) ∙ c .before .before .before .before .loop .inv
+loop-again c = let at-if1 = c .before in
+    let at-loop-test = at-if1 .before .before in
+    past-more _ _ _ (at-loop-test .loop-test .taken) (is-digit _ (at-if1 .if1 .left) (c .if2 .left)) ∙ at-loop-test .before .loop .inv
 
 returns-3 : tie.Need-returns-3 Inv-loop μ-loop
 returns-3 c = sym (past-end _ _ _ (c .loop-test .left)) ∙ c .before .loop .inv

@@ -1,5 +1,5 @@
 -- `token::fixed` meets its contract: what is left of the word stands at i if all of it stands at the start. Assumes nothing.
-use Prim.Native.Nat.{_+_, _-_, _≤_, _<_}
+use Prim.Native.Nat.{_+_, _-_, _≤_}
 use mathlib.Core.Path.{_≡_, refl, sym, _∙_}
 use lib.ListN.{length, drop}
 use Rattle.dimacs.specs.Tokens.{begins}
@@ -27,8 +27,9 @@ shared-slice-read-if2-2 : tie.Need-shared-slice-read-if2-2 Inv-loop μ-loop
 shared-slice-read-if2-2 c = omega arith
 
 returns-2 : tie.Need-returns-2 Inv-loop μ-loop
-returns-2 c = let l = c .before .before .before .before in
-    sym (fixed-no _ _ _ (sym (l .before .loop .inv .2) ∙ begins-differs _ _ _ _ (l .loop-test .taken) (c .before .before .before .if1 .left) (c .if2 .taken)))
+returns-2 c = let at-if1 = c .before .before .before in
+    let at-loop-test = at-if1 .before in
+    sym (fixed-no _ _ _ (sym (at-loop-test .before .loop .inv .2) ∙ begins-differs _ _ _ _ (at-loop-test .loop-test .taken) (at-if1 .if1 .left) (c .if2 .taken)))
 
 add-k : tie.Need-add-k Inv-loop μ-loop
 add-k c = omega arith
@@ -40,12 +41,14 @@ loop-less : tie.Need-loop-less Inv-loop μ-loop
 loop-less c = omega arith
 
 loop-again : tie.Need-loop-again Inv-loop μ-loop
-loop-again c = let l = c .before .before .before .before in
-    (omega arith, omega arith, begins-more _ _ _ _ (l .loop-test .taken) (c .before .before .before .if1 .left) (c .if2 .left) ∙ l .before .loop .inv .2)
+loop-again c = let at-if1 = c .before .before .before in
+    let at-loop-test = at-if1 .before in
+    (omega arith, omega arith, begins-more _ _ _ _ (at-loop-test .loop-test .taken) (at-if1 .if1 .left) (c .if2 .left) ∙ at-loop-test .before .loop .inv .2)
 
 returns-3 : tie.Need-returns-3 Inv-loop μ-loop
-returns-3 c = let a = c .before .before .args in
-    let l = c .before .loop in
+returns-3 c = let at-loop = c .before in
+    let a = at-loop .before .args in
+    let l = at-loop .loop in
     omega (arith, fixed-is (a .w .now) (a .text .now) (a .at) (sym (l .inv .2) ∙ begins-all (a .w .now) (a .text .now) (l .k) (l .i) (c .loop-test .left)))
 
 pub fixed-spec : {M : Type 1} → statement M

@@ -28,17 +28,20 @@ returns-2 : tie.Need-returns-2
 returns-2 c = sym (line-end-CRLF _ _ (c .before .before .before .if3 .taken) (c .if5 .taken))
 
 returns-3 : tie.Need-returns-3
-returns-3 c = sym (line-end-no _ _ (c .before .before .before .before .if2 .left) (λ _. c .if5 .left))
+returns-3 c = let at-if3 = c .before .before .before in
+    sym (line-end-no _ _ (at-if3 .before .if2 .left) (λ _. c .if5 .left))
 
 returns-4 : tie.Need-returns-4
-returns-4 c = let a = c .before .before .before .before .before .args in
-    sym (line-end-no _ _ (c .before .before .if2 .left) (λ _. no-byte (a .text .now) (a .at + 1) 9 (c .if4 .left)))
+returns-4 c = let at-if2 = c .before .before in
+    let a = at-if2 .before .before .before .args in
+    sym (line-end-no _ _ (at-if2 .if2 .left) (λ _. no-byte (a .text .now) (a .at + 1) 9 (c .if4 .left)))
 
 returns-5 : tie.Need-returns-5
 returns-5 c = sym (line-end-no _ _ (c .before .if2 .left) (λ h _. c .if3 .left h))
 
 returns-6 : tie.Need-returns-6
-returns-6 c = let gone = no-byte (c .before .args .text .now) (c .before .args .at) in
+returns-6 c = let a = c .before .args in
+    let gone = no-byte (a .text .now) (a .at) in
     sym (line-end-no _ _ (gone 9 (c .if1 .left)) (λ h _. gone 12 (c .if1 .left) h))
 
 pub interactive-newline-spec : {M : Type 1} → statement M

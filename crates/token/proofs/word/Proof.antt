@@ -18,12 +18,13 @@ skip-whitespace-requires : tie.Need-skip-whitespace-requires
 skip-whitespace-requires c κs = search needs
 
 returns-2 : tie.Need-returns-2
-returns-2 c = let l = c .before .before .before in
-    c .skip-whitespace .ensures ∙ sym (word-is _ _ _ _ (l .before .fixed .ensures) (l .if1 .left) (sym (c .before .before .is-end-of-word .ensures) ∙ c .before .if2 .taken))
+returns-2 c = let at-if2 = c .before in
+    let at-if1 = at-if2 .before .before in
+    c .skip-whitespace .ensures ∙ sym (word-is _ _ _ _ (at-if1 .before .fixed .ensures) (at-if1 .if1 .left) (sym (at-if2 .before .is-end-of-word .ensures) ∙ at-if2 .if2 .taken))
 
 returns-3 : tie.Need-returns-3
-returns-3 c = let l = c .before .before in
-    sym (word-goes-on _ _ _ _ (l .before .fixed .ensures) (l .if1 .left) (sym (c .before .is-end-of-word .ensures) ∙ c .if2 .left))
+returns-3 c = let at-if1 = c .before .before in
+    sym (word-goes-on _ _ _ _ (at-if1 .before .fixed .ensures) (at-if1 .if1 .left) (sym (c .before .is-end-of-word .ensures) ∙ c .if2 .left))
 
 pub word-spec : {M : Type 1} → statement M
 word-spec =
