@@ -19,13 +19,13 @@ use Rattle.dimacs.specs.Buffers.{laid}
 use Rattle.rows.specs.Answers.{rowOf, Reads}
 use Rattle.rows.specs.declared.Row.{Row}
 use Rattle.rows.specs.declared.Row.the-variants.{Ends, Closes, Stops}
-use Rattle.log_line.specs.Lines.{lineOf, lineLeaves, Counted, Goes}
+use Rattle.log_line.specs.Lines.{logLineOf, lineLeaves, Counted, ReadsLine}
 use Rattle.log_line.specs.declared.Log.the-variants.{Refused}
 use Rattle.log_line.specs.declared.Line.{Line}
 use Rattle.log_line.specs.declared.Line.the-variants.{Answer}
 
 -- Two permitted answers are equal, and so are the buffers after them.
-pub one-line : {d : Step def.Log def.LogAnswer} {old n₁ n₂ : List ℤ} {r₁ r₂ : Line} → Goes d old n₁ r₁ → Goes d old n₂ r₂ → (r₁ ≡ r₂) × (n₁ ≡ n₂)
+pub one-line : {d : Step def.Log def.LogAnswer} {old n₁ n₂ : List ℤ} {r₁ r₂ : Line} → ReadsLine d old n₁ r₁ → ReadsLine d old n₂ r₂ → (r₁ ≡ r₂) × (n₁ ≡ n₂)
 one-line p q = (p .line ∙ sym (q .line), p .buffer ∙ sym (q .buffer))
 
 -- There are so many literals, whatever the count is.
@@ -43,17 +43,18 @@ line-read-leaves s at solution a so = go (endOfLine s at)
 module _ (s : List ℕ) (solution : Solution) (d : row.Row) (old new : List ℤ) where
   -- What is read of a line at a place, after so many literals.
   abbrev ReadAt : ℕ → Assignment → ℕ → Line → Type 0
-  ReadAt n a count = Counted count (λ so. lineOf (def.lineRead s n solution a so))
+  ReadAt n a count = Counted count (λ so. logLineOf (def.lineRead s n solution a so))
 
-  abbrev Leads : Row → Type 0
-  Leads (Ends n count) = (r : Line) → ReadAt n Begun count r → Goes (def.valuesRead s solution d) old new r
-  Leads (Closes n count) = (r : Line) → ReadAt n Closed count r → Goes (def.valuesRead s solution d) old new r
-  Leads (Stops x count) = Goes (def.valuesRead s solution d) old new (Answer (Refused x count))
+  -- What the values of a line lead to.
+  abbrev ValuesLead : Row → Type 0
+  ValuesLead (Ends n count) = (r : Line) → ReadAt n Begun count r → ReadsLine (def.valuesRead s solution d) old new r
+  ValuesLead (Closes n count) = (r : Line) → ReadAt n Closed count r → ReadsLine (def.valuesRead s solution d) old new r
+  ValuesLead (Stops x count) = ReadsLine (def.valuesRead s solution d) old new (Answer (Refused x count))
 
-  pub row-leads : {r m : Row} → Reads d old new r → r ≡ m → Leads m
-  row-leads h e = subst Leads (sym (h .row) ∙ e) (go d refl (h .buffer))
+  pub values-lead : {r m : Row} → Reads d old new r → r ≡ m → ValuesLead m
+  values-lead h e = subst ValuesLead (sym (h .row) ∙ e) (go d refl (h .buffer))
     where
-      go : (x : row.Row) → d ≡ x → new ≡ laid (readBy x) old → Leads (rowOf x)
+      go : (x : row.Row) → d ≡ x → new ≡ laid (readBy x) old → ValuesLead (rowOf x)
       go (row.ends n so) e b = λ r is. rw e (record { line = is so refl; buffer = rw (line-read-leaves s n solution Begun so) b })
       go (row.closes n so) e b = λ r is. rw e (record { line = is so refl; buffer = rw (line-read-leaves s n solution Closed so) b })
       go (row.stops x so) e b = rw e (record { line = refl; buffer = b })

@@ -12,6 +12,6 @@ logOf (def.accepted v so) = Accepted v (length so)
 logOf (def.refusedLog r so) = Refused r (length so)
 
 -- The literals that an answer leaves in the buffer.
-abbrev pub leftBy : def.LogAnswer → List ℤ
-leftBy (def.accepted v so) = so
-leftBy (def.refusedLog r so) = so
+abbrev pub logLeaves : def.LogAnswer → List ℤ
+logLeaves (def.accepted v so) = so
+logLeaves (def.refusedLog r so) = so

@@ -8,39 +8,36 @@ use Rattle.dimacs.specs.Loop.{Step, again, answer}
 use Rattle.dimacs.specs.Names.{numbered}
 use Rattle.dimacs.specs.Logs as def
 use Rattle.dimacs.specs.Buffers.{laid}
+pub use Rattle.rows.specs.Answers.{Counted}
 use Rattle.log_line.specs.declared.Log.the-variants.{Refused}
 use Rattle.log_line.specs.declared.Reading.{Reading}
 use Rattle.log_line.specs.declared.Line.{Line}
 use Rattle.log_line.specs.declared.Line.the-variants.{Again, Answer}
-use Rattle.log_line.specs.Answers.{logOf, leftBy}
+use Rattle.log_line.specs.Answers.{logOf, logLeaves}
 
 -- A state of the code with the literals so far is one of the definition.
-abbrev pub stateOf : Reading → List ℤ → def.Log
-stateOf r so = def.logAt (r .place) (r .solution) (r .assignment) so
+abbrev pub logStateOf : Reading → List ℤ → def.Log
+logStateOf r so = def.logAt (r .place) (r .solution) (r .assignment) so
 
 -- A state of the definition is one of the code with its literals counted.
 abbrev pub readingOf : def.Log → Reading
 readingOf l = record { place = l .at; solution = l .solution; assignment = l .assignment; count = length (l .so) }
 
 -- What a line leads to, with its literals counted.
-abbrev pub lineOf : Step def.Log def.LogAnswer → Line
-lineOf (again l) = Again (readingOf l)
-lineOf (answer a) = Answer (logOf a)
+abbrev pub logLineOf : Step def.Log def.LogAnswer → Line
+logLineOf (again l) = Again (readingOf l)
+logLineOf (answer a) = Answer (logOf a)
 
 -- A refusal by its number, with so many literals before it.
-abbrev pub refusedOf : List ℕ → ℕ → ℕ → ℕ → Line
-refusedOf s number at count = Answer (Refused (numbered s number at) count)
-
--- An answer that tells the literals so far by their count: it is the same for any that are so many.
-abbrev pub Counted : {A : Type 0} → ℕ → (List ℤ → A) → A → Type 0
-Counted n f r = (so : List ℤ) → length so ≡ n → r ≡ f so
+abbrev pub lineRefused : List ℕ → ℕ → ℕ → ℕ → Line
+lineRefused s number at count = Answer (Refused (numbered s number at) count)
 
 -- The literals that a line leaves in the buffer.
 abbrev pub lineLeaves : Step def.Log def.LogAnswer → List ℤ
 lineLeaves (again l) = l .so
-lineLeaves (answer a) = leftBy a
+lineLeaves (answer a) = logLeaves a
 
 -- A line is read: what it leads to, and the buffer after it.
-pub record Goes (d : Step def.Log def.LogAnswer) (old new : List ℤ) (r : Line) : Type 0 where
-  pub line : r ≡ lineOf d
+pub record ReadsLine (d : Step def.Log def.LogAnswer) (old new : List ℤ) (r : Line) : Type 0 where
+  pub line : r ≡ logLineOf d
   pub buffer : new ≡ laid (lineLeaves d) old

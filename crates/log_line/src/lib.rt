@@ -3,7 +3,7 @@ ghost use mathlib.Core.Path.{_≡_};
 ghost use lib.ListN.{length, take};
 ghost use Rattle.dimacs.specs.Logs.{verdictOf, lineRead, solutionLine, logEnd, otherLine, valueLine};
 ghost use Rattle.log_line.specs.Answers.{logOf};
-ghost use Rattle.log_line.specs.Lines.{stateOf, lineOf, refusedOf, Counted, Goes};
+ghost use Rattle.log_line.specs.Lines.{logStateOf, logLineOf, lineRefused, Counted, ReadsLine};
 use dimacs::ASSIGNMENT_OPEN;
 use dimacs::Assignment;
 use dimacs::CEILING;
@@ -42,7 +42,7 @@ pub enum Line {
 
 // A refusal as what a line leads to.
 fn refused(text: &[u8], number: u8, place: usize, count: usize) -> Line
-    ensures { λ r. ⌜ r ≡ refusedOf (now (text .entry)) number place count ⌝ }
+    ensures { λ r. ⌜ r ≡ lineRefused (now (text .entry)) number place count ⌝ }
 {
     Line::Answer(Log::Refused {
         refusal: refuse(text, number, place),
@@ -58,7 +58,7 @@ fn line_read(
     assignment: Assignment,
     count: usize,
 ) -> Line
-    ensures { λ r. ⌜ Counted count (λ so. lineOf (lineRead (now (text .entry)) at solution assignment so)) r ⌝ }
+    ensures { λ r. ⌜ Counted count (λ so. logLineOf (lineRead (now (text .entry)) at solution assignment so)) r ⌝ }
 {
     match token::interactive_end_of_line(text, at) {
         EndOfLine::Missing => refused(text, LINE_END_EXPECTED, at, count),
@@ -73,7 +73,7 @@ fn line_read(
 
 // A value line after its `v `.
 pub fn value_line(text: &[u8], at: usize, reading: Reading, lits: &mut [i32]) -> Line
-    ensures { λ r. ⌜ Goes (valueLine (now (text .entry)) (length (now (lits .entry))) at (stateOf reading (take (reading .count) (now (lits .entry))))) (now (lits .entry)) (now (lits .exit)) r ⌝ }
+    ensures { λ r. ⌜ ReadsLine (valueLine (now (text .entry)) (length (now (lits .entry))) at (logStateOf reading (take (reading .count) (now (lits .entry))))) (now (lits .entry)) (now (lits .exit)) r ⌝ }
 {
     let solution = reading.solution;
     let from = token::skip_whitespace(text, at);
@@ -88,7 +88,7 @@ pub fn value_line(text: &[u8], at: usize, reading: Reading, lits: &mut [i32]) ->
 
 // A solution line after its `s `.
 pub fn solution_line(text: &[u8], at: usize, reading: Reading) -> Line
-    ensures { λ r. ⌜ Counted (reading .count) (λ so. lineOf (solutionLine (now (text .entry)) at (stateOf reading so))) r ⌝ }
+    ensures { λ r. ⌜ Counted (reading .count) (λ so. logLineOf (solutionLine (now (text .entry)) at (logStateOf reading so))) r ⌝ }
 {
     let assignment = reading.assignment;
     let count = reading.count;
@@ -143,7 +143,7 @@ pub fn log_end(text: &[u8], reading: Reading) -> Log
 
 // A line of no permitted kind: refused, or skipped in the lenient mode.
 pub fn other_line(text: &[u8], mode: Mode, reading: Reading) -> Line
-    ensures { λ r. ⌜ Counted (reading .count) (λ so. lineOf (otherLine (now (text .entry)) mode (stateOf reading so))) r ⌝ }
+    ensures { λ r. ⌜ Counted (reading .count) (λ so. logLineOf (otherLine (now (text .entry)) mode (logStateOf reading so))) r ⌝ }
 {
     let place = reading.place;
     let solution = reading.solution;

@@ -25,8 +25,8 @@ use Rattle.dimacs.specs.declared.Verdict.the-variants.{Yes, No, Unknown}
 use Rattle.dimacs.proofs.Tests.{chosen}
 use Rattle.dimacs.proofs.Rows.{Grown, row-grows}
 use Rattle.dimacs.proofs.Buffer.{unchanged, in-place}
-use Rattle.log_line.specs.Answers.{logOf, leftBy}
-use Rattle.log_line.specs.Lines.{stateOf, lineOf, lineLeaves, Counted, Goes}
+use Rattle.log_line.specs.Answers.{logOf, logLeaves}
+use Rattle.log_line.specs.Lines.{logStateOf, logLineOf, lineLeaves, Counted, ReadsLine}
 use Rattle.log_line.specs.declared.Log.{Log}
 use Rattle.log_line.specs.declared.Reading.{Reading}
 use Rattle.log_line.specs.declared.Line.{Line}
@@ -49,7 +49,7 @@ module _ (s : List ℕ) where
       (solution-is-leaves Unknown (bytes "UNKNOWN") at l _
       refl))
 
-  log-end-leaves : (at : ℕ) (solution : Solution) (so : List ℤ) (a : Assignment) → leftBy (def.logEnd s at solution so a) ≡ so
+  log-end-leaves : (at : ℕ) (solution : Solution) (so : List ℤ) (a : Assignment) → logLeaves (def.logEnd s at solution so a) ≡ so
   log-end-leaves at solution so Unbegun = refl
   log-end-leaves at solution so Begun = refl
   log-end-leaves at solution so Closed = refl
@@ -60,11 +60,11 @@ module _ (s : List ℕ) where
 
 -- The line that is read next.
 abbrev pub lineAt : List ℕ → Mode → List ℤ → Reading → Step def.Log def.LogAnswer
-lineAt s mode lits x = def.logLine s mode (length lits) (stateOf x (take (x .count) lits))
+lineAt s mode lits x = def.logLine s mode (length lits) (logStateOf x (take (x .count) lits))
 
 -- A line that adds none leaves the buffer.
-stays : {d e : Step def.Log def.LogAnswer} {old : List ℤ} {count : ℕ} {r : Line} → count ≤ length old → d ≡ e → lineLeaves e ≡ take count old → r ≡ lineOf e → Goes d old old r
-stays h k l is = record { line = is ∙ ap lineOf (sym k); buffer = rw (k, l) (in-place (unchanged h)) }
+line-adds-none : {d e : Step def.Log def.LogAnswer} {old : List ℤ} {count : ℕ} {r : Line} → count ≤ length old → d ≡ e → lineLeaves e ≡ take count old → r ≡ logLineOf e → ReadsLine d old old r
+line-adds-none h k l is = record { line = is ∙ ap logLineOf (sym k); buffer = rw (k, l) (in-place (unchanged h)) }
 
 -- First bytes that are looked for only if a test fails.
 module _ (t : Bool) (v w at : ℕ) (is : v ≡ cond t at w) where
@@ -87,57 +87,57 @@ module _ (s : List ℕ) (mode : Mode) (x : Reading) (old : List ℤ) (fits : x .
   many : length (take (x .count) old) ≡ x .count
   many = length-take-le (x .count) old fits
 
-  comment-is : (c ≡ x .place → ⊥) → lineAt s mode old x ≡ again (def.logAt c (x .solution) (x .assignment) (take (x .count) old))
+  comment-line-is : (c ≡ x .place → ⊥) → lineAt s mode old x ≡ again (def.logAt c (x .solution) (x .assignment) (take (x .count) old))
   unfolding def.logLine
-  comment-is h = rw (sym c-is, ne-eqb c (x .place) h)
+  comment-line-is h = rw (sym c-is, ne-eqb c (x .place) h)
 
-  pub comment-line : (c ≡ x .place → ⊥) → Goes (lineAt s mode old x) old old (Again (record { place = c; solution = x .solution; assignment = x .assignment; count = x .count }))
-  comment-line h = stays fits (comment-is h) refl (rw many)
+  pub comment-line : (c ≡ x .place → ⊥) → ReadsLine (lineAt s mode old x) old old (Again (record { place = c; solution = x .solution; assignment = x .assignment; count = x .count }))
+  comment-line h = line-adds-none fits (comment-line-is h) refl (rw many)
 
   module _ (c-no : c ≡ x .place) (v : ℕ) (v-is : v ≡ valueStart s (x .assignment) (x .place)) where
-    value-is : (v ≡ x .place → ⊥) → lineAt s mode old x ≡ def.valueLine s (length old) v (stateOf x (take (x .count) old))
+    value-line-is : (v ≡ x .place → ⊥) → lineAt s mode old x ≡ def.valueLine s (length old) v (logStateOf x (take (x .count) old))
     unfolding def.logLine
-    value-is h =
+    value-line-is h =
         let j = starts-so (def.isClosed (x .assignment)) v (fixed s (bytes "v ") (x .place)) (x .place) v-is h in
         rw (sym c-is, eq-eqb c (x .place) c-no, j .0, j .1)
 
-    pub value-line : (v ≡ x .place → ⊥) → {new : List ℤ} {r : Line} → Goes (def.valueLine s (length old) v (stateOf x (take (x .count) old))) old new r
-        → Goes (lineAt s mode old x) old new r
-    value-line h g = rw (value-is h) g
+    pub value-line : (v ≡ x .place → ⊥) → {new : List ℤ} {r : Line} → ReadsLine (def.valueLine s (length old) v (logStateOf x (take (x .count) old))) old new r
+        → ReadsLine (lineAt s mode old x) old new r
+    value-line h g = rw (value-line-is h) g
 
     module _ (v-no : v ≡ x .place) (e : ℕ) (e-is : e ≡ solutionStart s (x .solution) (x .place)) where
       no-values : def.isClosed (x .assignment) || unmoved (x .place) (fixed s (bytes "v ") (x .place)) ≡ true
       no-values = starts-not (def.isClosed (x .assignment)) v (fixed s (bytes "v ") (x .place)) (x .place) v-is v-no
 
-      solution-is : (e ≡ x .place → ⊥) → lineAt s mode old x ≡ def.solutionLine s e (stateOf x (take (x .count) old))
+      solution-line-is : (e ≡ x .place → ⊥) → lineAt s mode old x ≡ def.solutionLine s e (logStateOf x (take (x .count) old))
       unfolding def.logLine
-      solution-is h =
+      solution-line-is h =
           let i = starts-so (def.isSaid (x .solution)) e (fixed s (bytes "s ") (x .place)) (x .place) e-is h in
           rw (sym c-is, eq-eqb c (x .place) c-no, no-values, i .0, i .1)
 
-      pub solution-line : (e ≡ x .place → ⊥) → {r : Line} → Counted (x .count) (λ so. lineOf (def.solutionLine s e (stateOf x so))) r
-          → Goes (lineAt s mode old x) old old r
-      solution-line h is = stays fits (solution-is h) (solution-line-leaves s e (stateOf x (take (x .count) old))) (is (take (x .count) old) many)
+      pub solution-line : (e ≡ x .place → ⊥) → {r : Line} → Counted (x .count) (λ so. logLineOf (def.solutionLine s e (logStateOf x so))) r
+          → ReadsLine (lineAt s mode old x) old old r
+      solution-line h is = line-adds-none fits (solution-line-is h) (solution-line-leaves s e (logStateOf x (take (x .count) old))) (is (take (x .count) old) many)
 
       module _ (e-no : e ≡ x .place) where
         no-solution : def.isSaid (x .solution) || unmoved (x .place) (fixed s (bytes "s ") (x .place)) ≡ true
         no-solution = starts-not (def.isSaid (x .solution)) e (fixed s (bytes "s ") (x .place)) (x .place) e-is e-no
 
-        end-is : atEnd s (x .place) ≡ true → lineAt s mode old x ≡ answer (def.logEnd s (x .place) (x .solution) (take (x .count) old) (x .assignment))
+        last-line-is : atEnd s (x .place) ≡ true → lineAt s mode old x ≡ answer (def.logEnd s (x .place) (x .solution) (take (x .count) old) (x .assignment))
         unfolding def.logLine
-        end-is t = rw (sym c-is, eq-eqb c (x .place) c-no, no-values, no-solution, t)
+        last-line-is t = rw (sym c-is, eq-eqb c (x .place) c-no, no-values, no-solution, t)
 
         pub last-line : atEnd s (x .place) ≡ true → {a : Log}
-            → Counted (x .count) (λ so. logOf (def.logEnd s (x .place) (x .solution) so (x .assignment))) a → Goes (lineAt s mode old x) old old (Answer a)
-        last-line t is = stays fits (end-is t) (log-end-leaves s (x .place) (x .solution) (take (x .count) old) (x .assignment)) (ap Answer (is (take (x .count) old) many))
+            → Counted (x .count) (λ so. logOf (def.logEnd s (x .place) (x .solution) so (x .assignment))) a → ReadsLine (lineAt s mode old x) old old (Answer a)
+        last-line t is = line-adds-none fits (last-line-is t) (log-end-leaves s (x .place) (x .solution) (take (x .count) old) (x .assignment)) (ap Answer (is (take (x .count) old) many))
 
-        other-is : atEnd s (x .place) ≡ false → lineAt s mode old x ≡ def.otherLine s mode (stateOf x (take (x .count) old))
+        other-line-is : atEnd s (x .place) ≡ false → lineAt s mode old x ≡ def.otherLine s mode (logStateOf x (take (x .count) old))
         unfolding def.logLine
-        other-is t = rw (sym c-is, eq-eqb c (x .place) c-no, no-values, no-solution, t)
+        other-line-is t = rw (sym c-is, eq-eqb c (x .place) c-no, no-values, no-solution, t)
 
-        pub other-line : atEnd s (x .place) ≡ false → {r : Line} → Counted (x .count) (λ so. lineOf (def.otherLine s mode (stateOf x so))) r
-            → Goes (lineAt s mode old x) old old r
-        other-line t is = stays fits (other-is t) (other-line-leaves s mode (stateOf x (take (x .count) old))) (is (take (x .count) old) many)
+        pub other-line : atEnd s (x .place) ≡ false → {r : Line} → Counted (x .count) (λ so. logLineOf (def.otherLine s mode (logStateOf x so))) r
+            → ReadsLine (lineAt s mode old x) old old r
+        other-line t is = line-adds-none fits (other-line-is t) (other-line-leaves s mode (logStateOf x (take (x .count) old))) (is (take (x .count) old) many)
 
 module _ (s : List ℕ) (mode : Mode) (room : ℕ) (l : def.Log) where
   Grows : Step def.Log def.LogAnswer → Type 0

@@ -14,8 +14,8 @@ use Rattle.dimacs.proofs.Loops.{after}
 use Rattle.dimacs.proofs.Logs.{LineLeads, log-line-leads, log-step}
 use Rattle.dimacs.specs.Buffers.{laid}
 use Rattle.dimacs.proofs.Buffer.{Kept, unchanged, counted, beyond, adds, front}
-use Rattle.log_line.specs.Answers.{logOf, leftBy}
-use Rattle.log_line.specs.Lines.{stateOf, readingOf, lineOf, lineLeaves, Goes}
+use Rattle.log_line.specs.Answers.{logOf, logLeaves}
+use Rattle.log_line.specs.Lines.{logStateOf, readingOf, logLineOf, lineLeaves, ReadsLine}
 use Rattle.log_line.specs.declared.Log.{Log}
 use Rattle.log_line.specs.declared.Log.the-variants.{Accepted, Refused}
 use Rattle.log_line.specs.declared.Reading.{Reading}
@@ -27,53 +27,54 @@ use Rattle.sat_solver_log.proofs.Lines.{lineAt, log-line-grows}
 pub one-log : {d : def.LogAnswer} {old n₁ n₂ : List ℤ} {r₁ r₂ : Log} → Parses d old n₁ r₁ → Parses d old n₂ r₂ → (r₁ ≡ r₂) × (n₁ ≡ n₂)
 one-log p q = (p .answer ∙ sym (q .answer), p .buffer ∙ sym (q .buffer))
 
-abbrev pub CountFits : ℕ → Log → Type 0
-CountFits room (Accepted v n) = n ≤ room
-CountFits room (Refused r n) = n ≤ room
+abbrev pub LogCountFits : ℕ → Log → Type 0
+LogCountFits room (Accepted v n) = n ≤ room
+LogCountFits room (Refused r n) = n ≤ room
 
 -- No answer counts more literals than the buffer holds.
-pub parses-fit : {d : def.LogAnswer} {old new : List ℤ} {r a : Log} → Parses d old new r → r ≡ a → CountFits (length new) a
-parses-fit {d} {old} {new} p g = subst (CountFits (length new)) (sym (p .answer) ∙ g) (go d (p .buffer))
+pub parses-fit : {d : def.LogAnswer} {old new : List ℤ} {r a : Log} → Parses d old new r → r ≡ a → LogCountFits (length new) a
+parses-fit {d} {old} {new} p g = subst (LogCountFits (length new)) (sym (p .answer) ∙ g) (go d (p .buffer))
   where
-    go : (d : def.LogAnswer) → new ≡ laid (leftBy d) old → CountFits (length new) (logOf d)
+    go : (d : def.LogAnswer) → new ≡ laid (logLeaves d) old → LogCountFits (length new) (logOf d)
     go (def.accepted v so) e = rw e (omega (arith, length-append so (drop (length so) old)))
     go (def.refusedLog r so) e = rw e (omega (arith, length-append so (drop (length so) old)))
 
-pub record Held (s : List ℕ) (mode : Mode) (old lits : List ℤ) (x : Reading) : Type 0 where
+-- The literals so far stand at the front of the buffer, and the log from here on is the log from the start.
+pub record LogSoFar (s : List ℕ) (mode : Mode) (old lits : List ℤ) (x : Reading) : Type 0 where
   pub kept : Kept old lits (x .count)
-  pub so-far : def.log s mode (length old) ≡ def.logFrom s mode (length old) (stateOf x (take (x .count) lits))
+  pub so-far : def.log s mode (length old) ≡ def.logFrom s mode (length old) (logStateOf x (take (x .count) lits))
 
-pub starts : (s : List ℕ) (mode : Mode) (old : List ℤ) → Held s mode old old (record { place = 0; solution = Unsaid; assignment = Unbegun; count = 0 })
+pub log-so-far-start : (s : List ℕ) (mode : Mode) (old : List ℤ) → LogSoFar s mode old old (record { place = 0; solution = Unsaid; assignment = Unbegun; count = 0 })
 unfolding def.log
-starts s mode old = record { kept = unchanged (omega arith); so-far = refl }
+log-so-far-start s mode old = record { kept = unchanged (omega arith); so-far = refl }
 
-module _ {s : List ℕ} {mode : Mode} {old lits : List ℤ} {x : Reading} (h : Held s mode old lits x) where
-  step : def.log s mode (length old) ≡ after (lineAt s mode lits x) (def.logFrom s mode (length old))
-  step = rw (h .kept .same) (h .so-far ∙ log-step s mode (length old) (stateOf x (take (x .count) lits)))
+module _ {s : List ℕ} {mode : Mode} {old lits : List ℤ} {x : Reading} (h : LogSoFar s mode old lits x) where
+  log-so-far-step : def.log s mode (length old) ≡ after (lineAt s mode lits x) (def.logFrom s mode (length old))
+  log-so-far-step = rw (h .kept .same) (h .so-far ∙ log-step s mode (length old) (logStateOf x (take (x .count) lits)))
 
-  grows : (x .count ≤ length (lineLeaves (lineAt s mode lits x))) × (length (lineLeaves (lineAt s mode lits x)) ≤ length lits)
-  grows = let k = h .kept .fits in omega (arith, log-line-grows s mode (length lits) (stateOf x (take (x .count) lits)), counted (h .kept))
+  log-so-far-grows : (x .count ≤ length (lineLeaves (lineAt s mode lits x))) × (length (lineLeaves (lineAt s mode lits x)) ≤ length lits)
+  log-so-far-grows = let k = h .kept .fits in omega (arith, log-line-grows s mode (length lits) (logStateOf x (take (x .count) lits)), counted (h .kept))
 
   -- On to the next line, which is further on.
-  pub goes-on : {new : List ℤ} {y : Reading} → Goes (lineAt s mode lits x) lits new (Again y) → Held s mode old new y × (length s - y .place < length s - x .place)
-  goes-on {new} {y} g = go (lineAt s mode lits x) step grows (log-line-leads s mode (length lits) (stateOf x (take (x .count) lits))) (g .line) (g .buffer)
+  pub log-so-far-on : {new : List ℤ} {y : Reading} → ReadsLine (lineAt s mode lits x) lits new (Again y) → LogSoFar s mode old new y × (length s - y .place < length s - x .place)
+  log-so-far-on {new} {y} g = go (lineAt s mode lits x) log-so-far-step log-so-far-grows (log-line-leads s mode (length lits) (logStateOf x (take (x .count) lits))) (g .line) (g .buffer)
     where
       go : (t : Step def.Log def.LogAnswer) → def.log s mode (length old) ≡ after t (def.logFrom s mode (length old))
-          → (x .count ≤ length (lineLeaves t)) × (length (lineLeaves t) ≤ length lits) → LineLeads s (x .place) t → Again y ≡ lineOf t → new ≡ laid (lineLeaves t) lits
-          → Held s mode old new y × (length s - y .place < length s - x .place)
+          → (x .count ≤ length (lineLeaves t)) × (length (lineLeaves t) ≤ length lits) → LineLeads s (x .place) t → Again y ≡ logLineOf t → new ≡ laid (lineLeaves t) lits
+          → LogSoFar s mode old new y × (length s - y .place < length s - x .place)
       go (again l) e k m a b =
           let q : readingOf l ≡ y = cc in
-          subst (λ z. Held s mode old new z × (length s - z .place < length s - x .place)) q
+          subst (λ z. LogSoFar s mode old new z × (length s - z .place < length s - x .place)) q
           (rw b (record { kept = adds (h .kept) (l .so) (k .0) (k .1); so-far = rw (front (l .so) lits) e }), omega arith)
       go (answer _) e k m a b = absurd (let z : _≡_ {A = ℕ} 0 1 = cc in omega arith)
 
-  pub answered : {new : List ℤ} {a : Log} → Goes (lineAt s mode lits x) lits new (Answer a) → Parses (def.log s mode (length old)) old new a
-  answered {new} {a} g = go (lineAt s mode lits x) step grows (g .line) (g .buffer)
+  pub log-so-far-answered : {new : List ℤ} {a : Log} → ReadsLine (lineAt s mode lits x) lits new (Answer a) → Parses (def.log s mode (length old)) old new a
+  log-so-far-answered {new} {a} g = go (lineAt s mode lits x) log-so-far-step log-so-far-grows (g .line) (g .buffer)
     where
       go : (t : Step def.Log def.LogAnswer) → def.log s mode (length old) ≡ after t (def.logFrom s mode (length old))
-          → (x .count ≤ length (lineLeaves t)) × (length (lineLeaves t) ≤ length lits) → Answer a ≡ lineOf t → new ≡ laid (lineLeaves t) lits
+          → (x .count ≤ length (lineLeaves t)) × (length (lineLeaves t) ≤ length lits) → Answer a ≡ logLineOf t → new ≡ laid (lineLeaves t) lits
           → Parses (def.log s mode (length old)) old new a
       go (again _) e k i b = absurd (let z : _≡_ {A = ℕ} 0 1 = cc in omega arith)
       go (answer d) e k i b =
           let q : a ≡ logOf d = cc in
-          rw e (record { answer = q; buffer = b ∙ rw (beyond (h .kept) (length (leftBy d)) (k .0)) })
+          rw e (record { answer = q; buffer = b ∙ rw (beyond (h .kept) (length (logLeaves d)) (k .0)) })

@@ -8,7 +8,7 @@ use Rattle.dimacs.specs.Names.{Reason, callRefusal}
 use Rattle.dimacs.specs.Logs as def
 use Rattle.dimacs.specs.declared.Mode.{Mode}
 use Rattle.dimacs.specs.Buffers.{laid}
-use Rattle.log_line.specs.Answers.{logOf, leftBy}
+use Rattle.log_line.specs.Answers.{logOf, logLeaves}
 use Rattle.log_line.specs.declared.Log.{Log}
 
 -- The log s in a mode if there is one, with room for so many literals in all, else refusal 26.
@@ -19,4 +19,4 @@ logBy none s room = def.refusedLog (callRefusal Reason.formatOrModeUnknown 0) []
 -- An answer of the definition is given: the answer, and the buffer after it.
 pub record Parses (d : def.LogAnswer) (old new : List ℤ) (r : Log) : Type 0 where
   pub answer : r ≡ logOf d
-  pub buffer : new ≡ laid (leftBy d) old
+  pub buffer : new ≡ laid (logLeaves d) old

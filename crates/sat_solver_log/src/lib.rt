@@ -4,7 +4,7 @@ ghost use Prim.Native.Nat.{_≤_};
 ghost use lib.ListN.{length, take};
 ghost use Rattle.dimacs.specs.Names.{modeOf};
 ghost use Rattle.dimacs.specs.Logs.{isClosed, isSaid, logLine, log};
-ghost use Rattle.log_line.specs.Lines.{stateOf, Goes};
+ghost use Rattle.log_line.specs.Lines.{logStateOf, ReadsLine};
 ghost use Rattle.sat_solver_log.specs.Answers.{logBy, Parses};
 ghost use Rattle.sat_solver_log.specs.Starts.{valueStart, solutionStart};
 use dimacs::Assignment;
@@ -61,10 +61,10 @@ fn solution_start(text: &[u8], at: usize, solution: Solution) -> usize
     token::fixed(text, at, b"s ")
 }
 
-// One line, or the end of the text.
-fn log_line(text: &[u8], mode: Mode, reading: Reading, lits: &mut [i32]) -> Line
+// One line of any kind, or the end of the text.
+fn any_line(text: &[u8], mode: Mode, reading: Reading, lits: &mut [i32]) -> Line
     requires { ⌜ reading .count ≤ length (now lits) ⌝ }
-    ensures { λ r. ⌜ Goes (logLine (now (text .entry)) mode (length (now (lits .entry))) (stateOf reading (take (reading .count) (now (lits .entry))))) (now (lits .entry)) (now (lits .exit)) r ⌝ }
+    ensures { λ r. ⌜ ReadsLine (logLine (now (text .entry)) mode (length (now (lits .entry))) (logStateOf reading (take (reading .count) (now (lits .entry))))) (now (lits .entry)) (now (lits .exit)) r ⌝ }
 {
     let at = reading.place;
     let solution = reading.solution;
@@ -103,7 +103,7 @@ pub fn parse_log_as(text: &[u8], mode: Mode, lits: &mut [i32]) -> Log
         count: 0,
     };
     loop {
-        match log_line(text, mode, reading, lits) {
+        match any_line(text, mode, reading, lits) {
             Line::Again(next) => reading = next,
             Line::Answer(log) => return log,
         }

@@ -1,6 +1,6 @@
 -- `log_line::solution_line` meets its contract, by the word that stands. Assumes nothing.
 use mathlib.Core.Path.{ap, sym, _∙_}
-use Rattle.log_line.specs.Lines.{stateOf, lineOf}
+use Rattle.log_line.specs.Lines.{logStateOf, logLineOf}
 use Rattle.log_line.proofs.Words.{says-yes, says-no, says-unknown, says-nothing}
 use borrow.Author.Needs.{needs}
 use Rattle.log_line.proofs.solution_line.Statement.{statement}
@@ -17,7 +17,7 @@ line-read-requires c κs = search needs
 
 returns : tie.Need-returns
 returns c = λ so h. c .line-read .ensures so h
-    ∙ ap lineOf (sym (says-yes _ _ (stateOf (c .before .before .before .before .before .args .reading) so) _ (c .before .before .fixed .ensures) (c .before .if1 .taken)))
+    ∙ ap logLineOf (sym (says-yes _ _ (logStateOf (c .before .before .before .before .before .args .reading) so) _ (c .before .before .fixed .ensures) (c .before .if1 .taken)))
 
 slice-aggregate-fixed-2 : tie.Need-slice-aggregate-fixed-2
 slice-aggregate-fixed-2 c = search needs
@@ -30,7 +30,7 @@ line-read-requires-2 c κs = search needs
 
 returns-2 : tie.Need-returns-2
 returns-2 c = λ so h. c .line-read2 .ensures so h
-    ∙ ap lineOf (sym (says-no _ _ (stateOf (c .before .before .before .before .before .before .before .before .args .reading) so) _ (c .before .before .before .before .before .fixed .ensures) (c .before .before .before .before .if1 .left) _ (c .before .before .fixed2 .ensures) (c .before .if2 .taken)))
+    ∙ ap logLineOf (sym (says-no _ _ (logStateOf (c .before .before .before .before .before .before .before .before .args .reading) so) _ (c .before .before .before .before .before .fixed .ensures) (c .before .before .before .before .if1 .left) _ (c .before .before .fixed2 .ensures) (c .before .if2 .taken)))
 
 slice-aggregate-fixed-3 : tie.Need-slice-aggregate-fixed-3
 slice-aggregate-fixed-3 c = search needs
@@ -43,14 +43,14 @@ line-read-requires-3 c κs = search needs
 
 returns-3 : tie.Need-returns-3
 returns-3 c = λ so h. c .line-read3 .ensures so h
-    ∙ ap lineOf (sym (says-unknown _ _ (stateOf (c .before .before .before .before .before .before .before .before .before .before .before .args .reading) so) _ (c .before .before .before .before .before .before .before .before .fixed .ensures) (c .before .before .before .before .before .before .before .if1 .left) _ (c .before .before .before .before .before .fixed2 .ensures) (c .before .before .before .before .if2 .left) _ (c .before .before .fixed3 .ensures) (c .before .if3 .taken)))
+    ∙ ap logLineOf (sym (says-unknown _ _ (logStateOf (c .before .before .before .before .before .before .before .before .before .before .before .args .reading) so) _ (c .before .before .before .before .before .before .before .before .fixed .ensures) (c .before .before .before .before .before .before .before .if1 .left) _ (c .before .before .before .before .before .fixed2 .ensures) (c .before .before .before .before .if2 .left) _ (c .before .before .fixed3 .ensures) (c .before .if3 .taken)))
 
 refused-requires : tie.Need-refused-requires
 refused-requires c κs = search needs
 
 returns-4 : tie.Need-returns-4
 returns-4 c = λ so h. rw (← h) at (c .refused .ensures)
-    ∙ ap lineOf (sym (says-nothing _ _ (stateOf (c .before .before .before .before .before .before .before .before .before .before .before .args .reading) so) _ (c .before .before .before .before .before .before .before .before .fixed .ensures) (c .before .before .before .before .before .before .before .if1 .left) _ (c .before .before .before .before .before .fixed2 .ensures) (c .before .before .before .before .if2 .left) _ (c .before .before .fixed3 .ensures) (c .before .if3 .left)))
+    ∙ ap logLineOf (sym (says-nothing _ _ (logStateOf (c .before .before .before .before .before .before .before .before .before .before .before .args .reading) so) _ (c .before .before .before .before .before .before .before .before .fixed .ensures) (c .before .before .before .before .before .before .before .if1 .left) _ (c .before .before .before .before .before .fixed2 .ensures) (c .before .before .before .before .if2 .left) _ (c .before .before .fixed3 .ensures) (c .before .if3 .left)))
 
 pub solution-line-spec : {M : Type 1} → statement M
 solution-line-spec =

@@ -1,6 +1,6 @@
 -- `log_line::value_line` meets its contract: what closes the line, by what its row comes to. Assumes nothing.
 use Rattle.dimacs.specs.Logs.{valueLine}
-use Rattle.log_line.proofs.Rows.{row-leads}
+use Rattle.log_line.proofs.Rows.{values-lead}
 use borrow.Author.Needs.{needs}
 use Rattle.log_line.proofs.value_line.Statement.{statement}
 use Rattle.log_line.proofs.value_line.Tie as tie
@@ -32,7 +32,7 @@ same-length c = search needs
 returns : tie.Need-returns
 unfolding valueLine
 returns c = let q = c .before .before .before .before .before .before .before .skip-whitespace .ensures in
-    row-leads _ _ _ _ _ (rw q at (c .before .before .before .before .before .ints .ensures)) (c .before .before .place .given .1) _ (c .line-read .ensures)
+    values-lead _ _ _ _ _ (rw q at (c .before .before .before .before .before .ints .ensures)) (c .before .before .place .given .1) _ (c .line-read .ensures)
 
 same-length-2 : tie.Need-same-length-2
 same-length-2 c = search needs
@@ -40,7 +40,7 @@ same-length-2 c = search needs
 returns-2 : tie.Need-returns-2
 unfolding valueLine
 returns-2 c = let q = c .before .before .before .before .before .before .before .skip-whitespace .ensures in
-    row-leads _ _ _ _ _ (rw q at (c .before .before .before .before .before .ints .ensures)) (c .before .before .place2 .given .1) _ (c .line-read2 .ensures)
+    values-lead _ _ _ _ _ (rw q at (c .before .before .before .before .before .ints .ensures)) (c .before .before .place2 .given .1) _ (c .line-read2 .ensures)
 
 same-length-3 : tie.Need-same-length-3
 same-length-3 c = search needs
@@ -48,7 +48,7 @@ same-length-3 c = search needs
 returns-3 : tie.Need-returns-3
 unfolding valueLine
 returns-3 c = let q = c .before .before .before .before .before .before .skip-whitespace .ensures in
-    row-leads _ _ _ _ _ (rw q at (c .before .before .before .before .ints .ensures)) (c .before .refusal .given .1)
+    values-lead _ _ _ _ _ (rw q at (c .before .before .before .before .ints .ensures)) (c .before .refusal .given .1)
 
 pub value-line-spec : {M : Type 1} → statement M
 value-line-spec =

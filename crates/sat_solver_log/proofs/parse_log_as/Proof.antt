@@ -1,31 +1,31 @@
 -- `sat_solver_log::parse_log_as` meets its contract: what the log comes to stays the same over each line, and each is further on. Assumes nothing.
 use Prim.Native.Nat.{_-_}
 use lib.ListN.{length}
-use Rattle.sat_solver_log.proofs.Runs.{Held, starts, goes-on, answered}
+use Rattle.sat_solver_log.proofs.Runs.{LogSoFar, log-so-far-start, log-so-far-on, log-so-far-answered}
 use borrow.Author.Needs.{needs}
 use Rattle.sat_solver_log.proofs.parse_log_as.Statement.{statement}
 use Rattle.sat_solver_log.proofs.parse_log_as.Tie as tie
 
 abbrev Inv-loop : tie.InvT-loop
-Inv-loop text mode lits₀ reading₀ lits reading = Held text mode lits₀ lits reading
+Inv-loop text mode lits₀ reading₀ lits reading = LogSoFar text mode lits₀ lits reading
 
 abbrev μ-loop : tie.MeasureT-loop
 μ-loop text mode lits₀ reading₀ lits reading = length text - reading .place
 
 loop-holds : tie.Need-loop-holds Inv-loop μ-loop
-loop-holds c = starts _ _ _
+loop-holds c = log-so-far-start _ _ _
 
-log-line-requires : tie.Need-log-line-requires Inv-loop μ-loop
-log-line-requires c κs = search needs
+any-line-requires : tie.Need-any-line-requires Inv-loop μ-loop
+any-line-requires c κs = search needs
 
 enum-known-next : tie.Need-enum-known-next Inv-loop μ-loop
 enum-known-next c = search needs
 
 loop-less : tie.Need-loop-less Inv-loop μ-loop
-loop-less c = let g = c .before .next .given .1 in goes-on (c .before .before .before .before .before .before .loop .inv) (rw g at (c .before .before .before .before .log-line .ensures)) .1
+loop-less c = let g = c .before .next .given .1 in log-so-far-on (c .before .before .before .before .before .before .loop .inv) (rw g at (c .before .before .before .before .any-line .ensures)) .1
 
 loop-again : tie.Need-loop-again Inv-loop μ-loop
-loop-again c = let g = c .before .next .given .1 in goes-on (c .before .before .before .before .before .before .loop .inv) (rw g at (c .before .before .before .before .log-line .ensures)) .0
+loop-again c = let g = c .before .next .given .1 in log-so-far-on (c .before .before .before .before .before .before .loop .inv) (rw g at (c .before .before .before .before .any-line .ensures)) .0
 
 enum-known-log : tie.Need-enum-known-log Inv-loop μ-loop
 enum-known-log c = search needs
@@ -34,7 +34,7 @@ same-length : tie.Need-same-length Inv-loop μ-loop
 same-length c = search needs
 
 returns : tie.Need-returns Inv-loop μ-loop
-returns c = let g = c .before .log .given .1 in answered (c .before .before .before .before .before .before .loop .inv) (rw g at (c .before .before .before .before .log-line .ensures))
+returns c = let g = c .before .log .given .1 in log-so-far-answered (c .before .before .before .before .before .before .loop .inv) (rw g at (c .before .before .before .before .any-line .ensures))
 
 pub parse-log-as-spec : {M : Type 1} → statement M
 parse-log-as-spec =
@@ -43,7 +43,7 @@ parse-log-as-spec =
     Inv-loop
     μ-loop
     loop-holds
-    log-line-requires
+    any-line-requires
     enum-known-next
     loop-less
     loop-again

@@ -1,9 +1,9 @@
--- `sat_solver_log::log_line` meets its contract, by the kind of the line. Assumes nothing.
+-- `sat_solver_log::any_line` meets its contract, by the kind of the line. Assumes nothing.
 use mathlib.Core.Path.{sym, _∙_}
 use Rattle.sat_solver_log.proofs.Lines.{comment-line, value-line, solution-line, last-line, other-line}
 use borrow.Author.Needs.{needs}
-use Rattle.sat_solver_log.proofs.log_line.Statement.{statement}
-use Rattle.sat_solver_log.proofs.log_line.Tie as tie
+use Rattle.sat_solver_log.proofs.any_line.Statement.{statement}
+use Rattle.sat_solver_log.proofs.any_line.Tie as tie
 
 interactive-strict-comment-requires : tie.Need-interactive-strict-comment-requires
 interactive-strict-comment-requires c κs = search needs
@@ -47,8 +47,8 @@ other-line-requires c κs = search needs
 returns-5 : tie.Need-returns-5
 returns-5 c = other-line _ _ _ _ (c .before .before .before .before .before .before .before .before .before .before .pre) _ (c .before .before .before .before .before .before .before .before .interactive-strict-comment .ensures) (c .before .before .before .before .before .before .before .if1 .left) _ (c .before .before .before .before .before .before .value-start .ensures) (c .before .before .before .before .before .if2 .left) _ (c .before .before .before .before .solution-start .ensures) (c .before .before .before .if3 .left) (sym (c .before .before .eof .ensures) ∙ c .before .if4 .left) (c .other-line .ensures)
 
-pub log-line-spec : {M : Type 1} → statement M
-log-line-spec =
+pub any-line-spec : {M : Type 1} → statement M
+any-line-spec =
     tie.close
     (tie.spec
     interactive-strict-comment-requires
