@@ -2,16 +2,20 @@
 ghost use mathlib.Core.Path.{_≡_};
 ghost use Prim.Native.Nat.{_≤_};
 ghost use lib.ListN.{length, take};
-ghost use Rattle.dimacs.specs.Names.{modeOf};
+ghost use Rattle.dimacs.specs.Names.{logFormat, kindOf};
 ghost use Rattle.dimacs.specs.Logs.{isClosed, isSaid, logLine, log};
+ghost use Rattle.log_line.specs.Answers.{logOf};
 ghost use Rattle.log_line.specs.Lines.{logStateOf, ReadsLine};
-ghost use Rattle.sat_solver_log.specs.Answers.{logBy, Parses};
+ghost use Rattle.sat_solver_log.specs.Answers.{noLog, logBy, Parses};
 ghost use Rattle.sat_solver_log.specs.Starts.{valueStart, solutionStart};
 use dimacs::Assignment;
 use dimacs::FORMAT_OR_MODE_UNKNOWN;
+use dimacs::Kind;
+use dimacs::LOG_FORMAT;
 use dimacs::Mode;
-use dimacs::Refusal;
 use dimacs::Solution;
+use dimacs::kind_of;
+use dimacs::refuse_call;
 use log_line::Line;
 use log_line::Log;
 use log_line::Reading;
@@ -110,19 +114,23 @@ pub fn parse_log_as(text: &[u8], mode: Mode, lits: &mut [i32]) -> Log
     }
 }
 
+// Refusal 26: no log is named.
+fn no_log() -> Log
+    ensures { λ r. ⌜ r ≡ logOf noLog ⌝ }
+{
+    Log::Refused {
+        refusal: refuse_call(FORMAT_OR_MODE_UNKNOWN, 0),
+        count: 0,
+    }
+}
+
 // The log by the number of a mode.
 pub fn parse_log(text: &[u8], mode: u8, lits: &mut [i32]) -> Log
-    ensures { λ r. ⌜ Parses (logBy (modeOf mode) (now (text .entry)) (length (now (lits .entry)))) (now (lits .entry)) (now (lits .exit)) r ⌝ }
+    ensures { λ r. ⌜ Parses (logBy (kindOf logFormat mode) (now (text .entry)) (length (now (lits .entry)))) (now (lits .entry)) (now (lits .exit)) r ⌝ }
 {
-    match mode {
-        0 => parse_log_as(text, Mode::Strict, lits),
-        1 => parse_log_as(text, Mode::Lenient, lits),
-        _ => Log::Refused {
-            refusal: Refusal {
-                number: FORMAT_OR_MODE_UNKNOWN,
-                place: 0,
-            },
-            count: 0,
-        },
+    match kind_of(LOG_FORMAT, mode) {
+        Kind::Unknown => no_log(),
+        Kind::Clauses(_, _) => no_log(),
+        Kind::Log(named) => parse_log_as(text, named, lits),
     }
 }
