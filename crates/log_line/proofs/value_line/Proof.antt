@@ -31,24 +31,33 @@ same-length c = search needs
 
 returns : tie.Need-returns
 unfolding valueLine
-returns c = let q = c .before .before .before .before .before .before .before .skip-whitespace .ensures in
-    values-lead _ _ _ _ _ (rw q at (c .before .before .before .before .before .ints .ensures)) (c .before .before .place .given .1) _ (c .line-read .ensures)
+returns c =
+    let ended = c .before .before in
+    let row = ended .before .before .before in
+    let q = row .before .before .skip-whitespace .ensures in
+    values-lead _ _ _ _ _ (rw q at (row .ints .ensures)) (ended .place .given .1) _ (c .line-read .ensures)
 
 same-length-2 : tie.Need-same-length-2
 same-length-2 c = search needs
 
 returns-2 : tie.Need-returns-2
 unfolding valueLine
-returns-2 c = let q = c .before .before .before .before .before .before .before .skip-whitespace .ensures in
-    values-lead _ _ _ _ _ (rw q at (c .before .before .before .before .before .ints .ensures)) (c .before .before .place2 .given .1) _ (c .line-read2 .ensures)
+returns-2 c =
+    let closed = c .before .before in
+    let row = closed .before .before .before in
+    let q = row .before .before .skip-whitespace .ensures in
+    values-lead _ _ _ _ _ (rw q at (row .ints .ensures)) (closed .place2 .given .1) _ (c .line-read2 .ensures)
 
 same-length-3 : tie.Need-same-length-3
 same-length-3 c = search needs
 
 returns-3 : tie.Need-returns-3
 unfolding valueLine
-returns-3 c = let q = c .before .before .before .before .before .before .skip-whitespace .ensures in
-    values-lead _ _ _ _ _ (rw q at (c .before .before .before .before .ints .ensures)) (c .before .refusal .given .1)
+returns-3 c =
+    let stopped = c .before in
+    let row = stopped .before .before .before in
+    let q = row .before .before .skip-whitespace .ensures in
+    values-lead _ _ _ _ _ (rw q at (row .ints .ensures)) (stopped .refusal .given .1)
 
 pub value-line-spec : {M : Type 1} → statement M
 value-line-spec =

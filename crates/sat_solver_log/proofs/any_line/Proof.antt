@@ -5,11 +5,23 @@ use borrow.Author.Needs.{needs}
 use Rattle.sat_solver_log.proofs.any_line.Statement.{statement}
 use Rattle.sat_solver_log.proofs.any_line.Tie as tie
 
+-- Where each kind of line was tried, as seen where the next one is.
+abbrev comment-tried : tie.After-value-start → tie.After-interactive-strict-comment
+comment-tried c = c .before .before
+
+abbrev values-tried : tie.After-solution-start → tie.After-value-start
+values-tried c = c .before .before
+
+abbrev word-tried : tie.After-eof → tie.After-solution-start
+word-tried c = c .before .before
+
 interactive-strict-comment-requires : tie.Need-interactive-strict-comment-requires
 interactive-strict-comment-requires c κs = search needs
 
 returns : tie.Need-returns
-returns c = comment-line _ _ _ _ (c .before .before .before .pre) _ (c .before .interactive-strict-comment .ensures) (c .if1 .taken)
+returns c =
+    let comment = c .before in
+    comment-line _ _ _ _ (comment .before .before .pre) _ (comment .interactive-strict-comment .ensures) (c .if1 .taken)
 
 value-start-requires : tie.Need-value-start-requires
 value-start-requires c κs = search needs
@@ -21,7 +33,12 @@ same-length : tie.Need-same-length
 same-length c = search needs
 
 returns-2 : tie.Need-returns-2
-returns-2 c = value-line _ _ _ _ (c .before .before .before .before .before .before .before .before .pre) _ (c .before .before .before .before .before .before .interactive-strict-comment .ensures) (c .before .before .before .before .before .if1 .left) _ (c .before .before .before .before .value-start .ensures) (c .before .before .before .if2 .taken) (c .before .value-line .ensures)
+returns-2 c =
+    let read = c .before in
+    let stands = read .before .before in
+    let values = stands .before in
+    let comment = comment-tried values in
+    value-line _ _ _ _ (comment .before .before .pre) _ (comment .interactive-strict-comment .ensures) (values .before .if1 .left) _ (values .value-start .ensures) (stands .if2 .taken) (read .value-line .ensures)
 
 solution-start-requires : tie.Need-solution-start-requires
 solution-start-requires c κs = search needs
@@ -30,7 +47,11 @@ solution-line-requires : tie.Need-solution-line-requires
 solution-line-requires c κs = search needs
 
 returns-3 : tie.Need-returns-3
-returns-3 c = solution-line _ _ _ _ (c .before .before .before .before .before .before .before .before .pre) _ (c .before .before .before .before .before .before .interactive-strict-comment .ensures) (c .before .before .before .before .before .if1 .left) _ (c .before .before .before .before .value-start .ensures) (c .before .before .before .if2 .left) _ (c .before .before .solution-start .ensures) (c .before .if3 .taken) (c .solution-line .ensures)
+returns-3 c =
+    let word = c .before .before in
+    let values = values-tried word in
+    let comment = comment-tried values in
+    solution-line _ _ _ _ (comment .before .before .pre) _ (comment .interactive-strict-comment .ensures) (values .before .if1 .left) _ (values .value-start .ensures) (word .before .if2 .left) _ (word .solution-start .ensures) (c .before .if3 .taken) (c .solution-line .ensures)
 
 eof-requires : tie.Need-eof-requires
 eof-requires c κs = search needs
@@ -39,13 +60,23 @@ log-end-requires : tie.Need-log-end-requires
 log-end-requires c κs = search needs
 
 returns-4 : tie.Need-returns-4
-returns-4 c = last-line _ _ _ _ (c .before .before .before .before .before .before .before .before .before .before .pre) _ (c .before .before .before .before .before .before .before .before .interactive-strict-comment .ensures) (c .before .before .before .before .before .before .before .if1 .left) _ (c .before .before .before .before .before .before .value-start .ensures) (c .before .before .before .before .before .if2 .left) _ (c .before .before .before .before .solution-start .ensures) (c .before .before .before .if3 .left) (sym (c .before .before .eof .ensures) ∙ c .before .if4 .taken) (c .log-end .ensures)
+returns-4 c =
+    let end = c .before .before in
+    let word = word-tried end in
+    let values = values-tried word in
+    let comment = comment-tried values in
+    last-line _ _ _ _ (comment .before .before .pre) _ (comment .interactive-strict-comment .ensures) (values .before .if1 .left) _ (values .value-start .ensures) (word .before .if2 .left) _ (word .solution-start .ensures) (end .before .if3 .left) (sym (end .eof .ensures) ∙ c .before .if4 .taken) (c .log-end .ensures)
 
 other-line-requires : tie.Need-other-line-requires
 other-line-requires c κs = search needs
 
 returns-5 : tie.Need-returns-5
-returns-5 c = other-line _ _ _ _ (c .before .before .before .before .before .before .before .before .before .before .pre) _ (c .before .before .before .before .before .before .before .before .interactive-strict-comment .ensures) (c .before .before .before .before .before .before .before .if1 .left) _ (c .before .before .before .before .before .before .value-start .ensures) (c .before .before .before .before .before .if2 .left) _ (c .before .before .before .before .solution-start .ensures) (c .before .before .before .if3 .left) (sym (c .before .before .eof .ensures) ∙ c .before .if4 .left) (c .other-line .ensures)
+returns-5 c =
+    let end = c .before .before in
+    let word = word-tried end in
+    let values = values-tried word in
+    let comment = comment-tried values in
+    other-line _ _ _ _ (comment .before .before .pre) _ (comment .interactive-strict-comment .ensures) (values .before .if1 .left) _ (values .value-start .ensures) (word .before .if2 .left) _ (word .solution-start .ensures) (end .before .if3 .left) (sym (end .eof .ensures) ∙ c .before .if4 .left) (c .other-line .ensures)
 
 pub any-line-spec : {M : Type 1} → statement M
 any-line-spec =

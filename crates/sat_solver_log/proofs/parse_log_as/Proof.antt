@@ -22,10 +22,18 @@ enum-known-next : tie.Need-enum-known-next Inv-loop μ-loop
 enum-known-next c = search needs
 
 loop-less : tie.Need-loop-less Inv-loop μ-loop
-loop-less c = let g = c .before .next .given .1 in log-so-far-on (c .before .before .before .before .before .before .loop .inv) (rw g at (c .before .before .before .before .any-line .ensures)) .1
+loop-less c =
+    let told = c .before in
+    let line = told .before .before .before in
+    let g = told .next .given .1 in
+    log-so-far-on (line .before .before .loop .inv) (rw g at (line .any-line .ensures)) .1
 
 loop-again : tie.Need-loop-again Inv-loop μ-loop
-loop-again c = let g = c .before .next .given .1 in log-so-far-on (c .before .before .before .before .before .before .loop .inv) (rw g at (c .before .before .before .before .any-line .ensures)) .0
+loop-again c =
+    let told = c .before in
+    let line = told .before .before .before in
+    let g = told .next .given .1 in
+    log-so-far-on (line .before .before .loop .inv) (rw g at (line .any-line .ensures)) .0
 
 enum-known-log : tie.Need-enum-known-log Inv-loop μ-loop
 enum-known-log c = search needs
@@ -34,7 +42,11 @@ same-length : tie.Need-same-length Inv-loop μ-loop
 same-length c = search needs
 
 returns : tie.Need-returns Inv-loop μ-loop
-returns c = let g = c .before .log .given .1 in log-so-far-answered (c .before .before .before .before .before .before .loop .inv) (rw g at (c .before .before .before .before .any-line .ensures))
+returns c =
+    let told = c .before in
+    let line = told .before .before .before in
+    let g = told .log .given .1 in
+    log-so-far-answered (line .before .before .loop .inv) (rw g at (line .any-line .ensures))
 
 pub parse-log-as-spec : {M : Type 1} → statement M
 parse-log-as-spec =
