@@ -19,7 +19,7 @@ use Rattle.dimacs.specs.Buffers.{laid}
 use Rattle.rows.specs.Answers.{rowOf, Reads}
 use Rattle.rows.specs.declared.Row.{Row}
 use Rattle.rows.specs.declared.Row.the-variants.{Ends, Closes, Stops}
-use Rattle.log_line.specs.Lines.{logLineOf, lineLeaves, Counted, ReadsLine}
+use Rattle.log_line.specs.Lines.{logLineOf, lineLeaves, ByCount, ReadsLine}
 use Rattle.log_line.specs.declared.Log.the-variants.{Refused}
 use Rattle.log_line.specs.declared.Line.{Line}
 use Rattle.log_line.specs.declared.Line.the-variants.{Answer}
@@ -29,7 +29,7 @@ pub one-line : {d : Step def.Log def.LogAnswer} {old n₁ n₂ : List ℤ} {r₁
 one-line p q = (p .line ∙ sym (q .line), p .buffer ∙ sym (q .buffer))
 
 -- There are so many literals, whatever the count is.
-pub one-count : {A : Type 0} {n : ℕ} {f : List ℤ → A} {r₁ r₂ : A} → Counted n f r₁ → Counted n f r₂ → r₁ ≡ r₂
+pub one-count : {A : Type 0} {n : ℕ} {f : List ℤ → A} {r₁ r₂ : A} → ByCount n f r₁ → ByCount n f r₂ → r₁ ≡ r₂
 one-count {n = n} p q = let so = replicate n (pos 0) in let e = length-replicate n (pos 0) in p so e ∙ sym (q so e)
 
 pub line-read-leaves : (s : List ℕ) (at : ℕ) (solution : Solution) (a : Assignment) (so : List ℤ) → lineLeaves (def.lineRead s at solution a so) ≡ so
@@ -43,7 +43,7 @@ line-read-leaves s at solution a so = go (endOfLine s at)
 module _ (s : List ℕ) (solution : Solution) (d : row.Row) (old new : List ℤ) where
   -- What is read of a line at a place, after so many literals.
   abbrev ReadAt : ℕ → Assignment → ℕ → Line → Type 0
-  ReadAt n a count = Counted count (λ so. logLineOf (def.lineRead s n solution a so))
+  ReadAt n a count = ByCount count (λ so. logLineOf (def.lineRead s n solution a so))
 
   -- What the values of a line lead to.
   abbrev ValuesLead : Row → Type 0

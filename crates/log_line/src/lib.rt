@@ -3,7 +3,7 @@ ghost use mathlib.Core.Path.{_≡_};
 ghost use lib.ListN.{length, take};
 ghost use Rattle.dimacs.specs.Logs.{verdictOf, lineRead, solutionLine, logEnd, otherLine, valueLine};
 ghost use Rattle.log_line.specs.Answers.{logOf};
-ghost use Rattle.log_line.specs.Lines.{logStateOf, logLineOf, lineRefused, Counted, ReadsLine};
+ghost use Rattle.log_line.specs.Lines.{logStateOf, logLineOf, lineRefused, ByCount, ReadsLine};
 use dimacs::ASSIGNMENT_OPEN;
 use dimacs::Assignment;
 use dimacs::CEILING;
@@ -58,7 +58,7 @@ fn line_read(
     assignment: Assignment,
     count: usize,
 ) -> Line
-    ensures { λ r. ⌜ Counted count (λ so. logLineOf (lineRead (now (text .entry)) at solution assignment so)) r ⌝ }
+    ensures { λ r. ⌜ ByCount count (λ so. logLineOf (lineRead (now (text .entry)) at solution assignment so)) r ⌝ }
 {
     match token::interactive_end_of_line(text, at) {
         EndOfLine::Missing => refused(text, LINE_END_EXPECTED, at, count),
@@ -88,7 +88,7 @@ pub fn value_line(text: &[u8], at: usize, reading: Reading, lits: &mut [i32]) ->
 
 // A solution line after its `s `.
 pub fn solution_line(text: &[u8], at: usize, reading: Reading) -> Line
-    ensures { λ r. ⌜ Counted (reading .count) (λ so. logLineOf (solutionLine (now (text .entry)) at (logStateOf reading so))) r ⌝ }
+    ensures { λ r. ⌜ ByCount (reading .count) (λ so. logLineOf (solutionLine (now (text .entry)) at (logStateOf reading so))) r ⌝ }
 {
     let assignment = reading.assignment;
     let count = reading.count;
@@ -125,7 +125,7 @@ fn verdict_of(solution: Solution) -> Verdict
 
 // The end of the text, which may not come while the assignment is open.
 pub fn log_end(text: &[u8], reading: Reading) -> Log
-    ensures { λ r. ⌜ Counted (reading .count) (λ so. logOf (logEnd (now (text .entry)) (reading .place) (reading .solution) so (reading .assignment))) r ⌝ }
+    ensures { λ r. ⌜ ByCount (reading .count) (λ so. logOf (logEnd (now (text .entry)) (reading .place) (reading .solution) so (reading .assignment))) r ⌝ }
 {
     let solution = reading.solution;
     let assignment = reading.assignment;
@@ -143,7 +143,7 @@ pub fn log_end(text: &[u8], reading: Reading) -> Log
 
 // A line of no permitted kind: refused, or skipped in the lenient mode.
 pub fn other_line(text: &[u8], mode: Mode, reading: Reading) -> Line
-    ensures { λ r. ⌜ Counted (reading .count) (λ so. logLineOf (otherLine (now (text .entry)) mode (logStateOf reading so))) r ⌝ }
+    ensures { λ r. ⌜ ByCount (reading .count) (λ so. logLineOf (otherLine (now (text .entry)) mode (logStateOf reading so))) r ⌝ }
 {
     let place = reading.place;
     let solution = reading.solution;

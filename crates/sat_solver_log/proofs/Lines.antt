@@ -26,7 +26,7 @@ use Rattle.dimacs.proofs.Tests.{chosen}
 use Rattle.dimacs.proofs.Rows.{Grown, row-grows}
 use Rattle.dimacs.proofs.Buffer.{unchanged, in-place}
 use Rattle.log_line.specs.Answers.{logOf, logLeaves}
-use Rattle.log_line.specs.Lines.{logStateOf, logLineOf, lineLeaves, Counted, ReadsLine}
+use Rattle.log_line.specs.Lines.{logStateOf, logLineOf, lineLeaves, ByCount, ReadsLine}
 use Rattle.log_line.specs.declared.Log.{Log}
 use Rattle.log_line.specs.declared.Reading.{Reading}
 use Rattle.log_line.specs.declared.Line.{Line}
@@ -115,7 +115,7 @@ module _ (s : List ℕ) (mode : Mode) (x : Reading) (old : List ℤ) (fits : x .
           let i = starts-so (def.isSaid (x .solution)) e (fixed s (bytes "s ") (x .place)) (x .place) e-is h in
           rw (sym c-is, eq-eqb c (x .place) c-no, no-values, i .0, i .1)
 
-      pub solution-line : (e ≡ x .place → ⊥) → {r : Line} → Counted (x .count) (λ so. logLineOf (def.solutionLine s e (logStateOf x so))) r
+      pub solution-line : (e ≡ x .place → ⊥) → {r : Line} → ByCount (x .count) (λ so. logLineOf (def.solutionLine s e (logStateOf x so))) r
           → ReadsLine (lineAt s mode old x) old old r
       solution-line h is = line-adds-none fits (solution-line-is h) (solution-line-leaves s e (logStateOf x (take (x .count) old))) (is (take (x .count) old) many)
 
@@ -128,14 +128,14 @@ module _ (s : List ℕ) (mode : Mode) (x : Reading) (old : List ℤ) (fits : x .
         last-line-is t = rw (sym c-is, eq-eqb c (x .place) c-no, no-values, no-solution, t)
 
         pub last-line : atEnd s (x .place) ≡ true → {a : Log}
-            → Counted (x .count) (λ so. logOf (def.logEnd s (x .place) (x .solution) so (x .assignment))) a → ReadsLine (lineAt s mode old x) old old (Answer a)
+            → ByCount (x .count) (λ so. logOf (def.logEnd s (x .place) (x .solution) so (x .assignment))) a → ReadsLine (lineAt s mode old x) old old (Answer a)
         last-line t is = line-adds-none fits (last-line-is t) (log-end-leaves s (x .place) (x .solution) (take (x .count) old) (x .assignment)) (ap Answer (is (take (x .count) old) many))
 
         other-line-is : atEnd s (x .place) ≡ false → lineAt s mode old x ≡ def.otherLine s mode (logStateOf x (take (x .count) old))
         unfolding def.logLine
         other-line-is t = rw (sym c-is, eq-eqb c (x .place) c-no, no-values, no-solution, t)
 
-        pub other-line : atEnd s (x .place) ≡ false → {r : Line} → Counted (x .count) (λ so. logLineOf (def.otherLine s mode (logStateOf x so))) r
+        pub other-line : atEnd s (x .place) ≡ false → {r : Line} → ByCount (x .count) (λ so. logLineOf (def.otherLine s mode (logStateOf x so))) r
             → ReadsLine (lineAt s mode old x) old old r
         other-line t is = line-adds-none fits (other-line-is t) (other-line-leaves s mode (logStateOf x (take (x .count) old))) (is (take (x .count) old) many)
 
