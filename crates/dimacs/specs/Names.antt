@@ -39,8 +39,7 @@ places = 32
 -- What the number of a format names in a mode.
 unfoldable pub kindIn : Mode → ℕ → Kind
 kindIn m f =
-    cond (eqb f 0) (Clauses Plain m)
-    (cond (eqb f 1) (Clauses Weighted m) (cond (eqb f 2) (Clauses Grouped m) (cond (eqb f logFormat) (Log m) Unknown)))
+    cond (eqb f 0) (Clauses Plain m) (cond (eqb f 1) (Clauses Weighted m) (cond (eqb f 2) (Clauses Grouped m) (cond (eqb f logFormat) (Log m) Unknown)))
 
 -- What the numbers of a format and a mode name.
 unfoldable pub kindOf : ℕ → ℕ → Kind

@@ -21,18 +21,27 @@ use Rattle.dimacs.specs.declared.Final.the-variants as final
 use Rattle.dimacs.proofs.Loops.{andOn, carried, said-carried, said-unrolled}
 use Rattle.dimacs.proofs.Clauses.{toCome, Placed, AnswerFits}
 use Rattle.dimacs.proofs.Texts.{next-clause-onward, answers-step, answer-fits}
+use Rattle.header.specs.Headed.{headedIn}
+use Rattle.header.specs.declared.Headed.{Headed}
 use Rattle.clause.specs.Answers.{nextOf, answeredOf}
 use Rattle.clause.specs.declared.Next.{Next}
 use Rattle.clause.specs.declared.Next.the-variants as next
 use Rattle.formula.specs.declared.Cursor.{Cursor}
+use Rattle.formula.specs.declared.Opened.{Opened}
 use Rattle.formula.specs.declared.Stepped.{Stepped}
-use Rattle.formula.specs.Cursors.{cursorOf, openedBy, openedAs, opened, after, stepOf, Steps}
+use Rattle.formula.specs.Cursors.{cursorOf, begunBy, openedBy, openedAs, opened, after, stepOf, Steps}
 use Rattle.formula.specs.declared.Outcome.the-variants as outcome
 use Rattle.formula.specs.Whole.{outcomeBy, outcomeOfText, outcomeIn, outcomeFrom, Call, callBy, call, calls, callOf}
 
 -- Two permitted answers of a call are equal, and so are the buffers after them.
 pub one-step : {s : List ℕ} {c : Cursor} {old n₁ n₂ : List ℤ} {r₁ r₂ : Stepped} → Steps s c old n₁ r₁ → Steps s c old n₂ r₂ → (r₁ ≡ r₂) × (n₁ ≡ n₂)
 one-step p q = (p .answer ∙ sym (q .answer), p .buffer ∙ sym (q .buffer))
+
+-- A text is opened by how its header is answered, and the cursor that begins there.
+pub opened-by : (f : Format) (m : Mode) (s : List ℕ) {h : Headed} {o : Opening} {c : Cursor}
+    → h ≡ headedIn f m s → h .opening ≡ o → c ≡ cursorOf f (h .limits) (begunBy o) → _≡_ {A = Opened} (record { opening = o; cursor = c }) (openedAs f m s)
+unfolding openedAs headedIn
+opened-by f m s p q r = rw (r, sym q) (ap (λ x. record { opening = x .opening; cursor = cursorOf f (x .limits) (begunBy (x .opening)) }) p)
 
 -- The calls from a cursor are the answers from it.
 call-carried : (s : List ℕ) (f : Format) (limits : Limits) (room : ℕ) (c : Progress)

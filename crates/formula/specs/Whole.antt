@@ -22,7 +22,6 @@ use Rattle.formula.specs.declared.Outcome.{Outcome}
 use Rattle.formula.specs.declared.Outcome.the-variants as outcome
 use Rattle.formula.specs.Cursors.{answerFrom, stepOf}
 
-
 -- By the last of a text's answers.
 unfoldable pub outcomeBy : List def.Answer → Outcome
 outcomeBy [] = outcome.Read

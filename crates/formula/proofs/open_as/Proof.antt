@@ -1,7 +1,5 @@
 -- `formula::open_as` meets its contract, by how the text opens. Assumes nothing.
-use mathlib.Core.Path.{sym, ap, _∙_}
-use Rattle.header.specs.Headed.{headedIn}
-use Rattle.formula.specs.Cursors.{openedAs}
+use Rattle.formula.proofs.Runs.{opened-by}
 use borrow.Author.Needs.{needs}
 use Rattle.formula.proofs.open_as.Statement.{statement}
 use Rattle.formula.proofs.open_as.Tie as tie
@@ -28,37 +26,19 @@ begin-requires-3 : tie.Need-begin-requires-3
 begin-requires-3 c κs = search needs
 
 returns : tie.Need-returns
-unfolding openedAs headedIn
 returns c =
     let told = c .before .before in
-    let headed = told .before .before .before in
-    let h = headed .parse-header .ensures in
-    let e = sym (ap (λ x. x .opening) h) ∙ told .opening .given .1 in
-    let b = c .begin .ensures in
-    let l = ap (λ x. x .limits) h in
-    rw (b, l, e)
+    opened-by _ _ _ (told .before .before .before .parse-header .ensures) (told .opening .given .1) (c .begin .ensures)
 
 returns-2 : tie.Need-returns-2
-unfolding openedAs headedIn
 returns-2 c =
     let told = c .before .before in
-    let headed = told .before .before .before in
-    let h = headed .parse-header .ensures in
-    let e = sym (ap (λ x. x .opening) h) ∙ told .opening2 .given .1 in
-    let b = c .begin2 .ensures in
-    let l = ap (λ x. x .limits) h in
-    rw (b, l, e)
+    opened-by _ _ _ (told .before .before .before .parse-header .ensures) (told .opening2 .given .1) (c .begin2 .ensures)
 
 returns-3 : tie.Need-returns-3
-unfolding openedAs headedIn
 returns-3 c =
     let told = c .before .before in
-    let headed = told .before .before .before in
-    let h = headed .parse-header .ensures in
-    let e = sym (ap (λ x. x .opening) h) ∙ told .opening3 .given .1 in
-    let b = c .begin3 .ensures in
-    let l = ap (λ x. x .limits) h in
-    rw (b, l, e)
+    opened-by _ _ _ (told .before .before .before .parse-header .ensures) (told .opening3 .given .1) (c .begin3 .ensures)
 
 pub open-as-spec : {M : Type 1} → statement M
 open-as-spec =
