@@ -16,7 +16,7 @@ use Rattle.dimacs.specs.declared.Assignment.the-variants.{Begun, Closed}
 use Rattle.dimacs.specs.declared.EndOfLine.{EndOfLine}
 use Rattle.dimacs.specs.declared.EndOfLine.the-variants as end
 use Rattle.dimacs.specs.Buffers.{laid}
-use Rattle.rows.specs.Answers.{rowOf, Reads}
+use Rattle.rows.specs.Answers.{rowOf, ReadsRow}
 use Rattle.rows.specs.declared.Row.{Row}
 use Rattle.rows.specs.declared.Row.the-variants.{Ends, Closes, Stops}
 use Rattle.log_line.specs.Lines.{logLineOf, lineLeaves, ByCount, ReadsLine}
@@ -51,7 +51,7 @@ module _ (s : List ℕ) (solution : Solution) (d : row.Row) (old new : List ℤ)
   ValuesLead (Closes n count) = (r : Line) → ReadAt n Closed count r → ReadsLine (def.valuesRead s solution d) old new r
   ValuesLead (Stops x count) = ReadsLine (def.valuesRead s solution d) old new (Answer (Refused x count))
 
-  pub values-lead : {r m : Row} → Reads d old new r → r ≡ m → ValuesLead m
+  pub values-lead : {r m : Row} → ReadsRow d old new r → r ≡ m → ValuesLead m
   values-lead h e = subst ValuesLead (sym (h .row) ∙ e) (go d refl (h .buffer))
     where
       go : (x : row.Row) → d ≡ x → new ≡ laid (readBy x) old → ValuesLead (rowOf x)

@@ -16,7 +16,7 @@ rowOf (def.closes at so) = Closes at (length so)
 rowOf (def.stops r so) = Stops r (length so)
 
 -- A row is read: what it comes to, and the buffer after it.
-pub record Reads (d : def.Row) (old new : List ℤ) (r : Row) : Type 0 where
+pub record ReadsRow (d : def.Row) (old new : List ℤ) (r : Row) : Type 0 where
   pub row : r ≡ rowOf d
   pub buffer : new ≡ laid (def.readBy d) old
 

@@ -1,7 +1,7 @@
 // A row of literals, read into a lent buffer after those that it holds.
 ghost use lib.ListN.{length, take};
 ghost use Rattle.dimacs.specs.Rows.{reads, row};
-ghost use Rattle.rows.specs.Answers.{Reads};
+ghost use Rattle.rows.specs.Answers.{ReadsRow};
 use dimacs::BUFFER_FULL;
 use dimacs::Int;
 use dimacs::LITERAL_TOO_BIG;
@@ -19,7 +19,7 @@ pub enum Row {
 
 // The row from a place on, after `held` literals of the buffer, or after all where it has not so many.
 pub fn ints(text: &[u8], at: usize, limit: u32, held: usize, lits: &mut [i32]) -> Row
-    ensures { λ r. ⌜ Reads (row (now (text .entry)) limit (length (now (lits .entry))) (reads at (take held (now (lits .entry))))) (now (lits .entry)) (now (lits .exit)) r ⌝ }
+    ensures { λ r. ⌜ ReadsRow (row (now (text .entry)) limit (length (now (lits .entry))) (reads at (take held (now (lits .entry))))) (now (lits .entry)) (now (lits .exit)) r ⌝ }
 {
     let mut place = at;
     let mut count = held;

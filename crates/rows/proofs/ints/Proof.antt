@@ -7,24 +7,24 @@ use mir.Syntax.{w32}
 use mir.Val.{toZ, ofZ}
 use Rattle.dimacs.proofs.Rows.{row-ends, row-closes, row-too-big, row-full, row-takes, takes-falls}
 use Rattle.dimacs.proofs.Buffer.{no-room, room}
-use Rattle.rows.proofs.Buffer.{Held, starts, starts-full, ends-at, closes-at, stops-at, puts}
+use Rattle.rows.proofs.Buffer.{RowSoFar, row-so-far-start, row-so-far-full, row-so-far-ends, row-so-far-closes, row-so-far-stops, row-so-far-puts}
 use borrow.Author.Needs.{needs}
 use native.Mathlib.Omega.{arith}
 use Rattle.rows.proofs.ints.Statement.{statement}
 use Rattle.rows.proofs.ints.Tie as tie
 
 abbrev Inv-loop : tie.InvT-loop
-Inv-loop text at limit held lits₀ place₀ count₀ lits place count = Held text limit at held lits₀ lits place count
+Inv-loop text at limit held lits₀ place₀ count₀ lits place count = RowSoFar text limit at held lits₀ lits place count
 
 abbrev μ-loop : tie.MeasureT-loop
 μ-loop text at limit held lits₀ place₀ count₀ lits place count = length text - place
 
 -- The literal as the machine reads it back.
-read-back : (c : tie.Else2 Inv-loop μ-loop) → toZ w32 (ofZ w32 (c .before .before .v .given .0 .0)) ≡ c .before .before .v .given .0 .0
-read-back c = search needs
+literal-back : (c : tie.Else2 Inv-loop μ-loop) → toZ w32 (ofZ w32 (c .before .before .v .given .0 .0)) ≡ c .before .before .v .given .0 .0
+literal-back c = search needs
 
 loop-holds : tie.Need-loop-holds Inv-loop μ-loop
-loop-holds c = ⊎-elim (λ w. starts-full _ _ (omega arith) (omega arith)) (λ w. starts _ _ (omega arith) (omega arith)) (c .if1 .came)
+loop-holds c = ⊎-elim (λ w. row-so-far-full _ _ (omega arith) (omega arith)) (λ w. row-so-far-start _ _ (omega arith) (omega arith)) (c .if1 .came)
 
 int-requires : tie.Need-int-requires Inv-loop μ-loop
 int-requires c κs = search needs
@@ -36,7 +36,7 @@ same-length : tie.Need-same-length Inv-loop μ-loop
 same-length c = search needs
 
 returns : tie.Need-returns Inv-loop μ-loop
-returns c = ends-at (c .before .before .before .loop .inv) (row-ends _ _ _ _ _ (sym (c .before .before .int .ensures) ∙ c .enum-told .given .1))
+returns c = row-so-far-ends (c .before .before .before .loop .inv) (row-ends _ _ _ _ _ (sym (c .before .before .int .ensures) ∙ c .enum-told .given .1))
 
 enum-known-next : tie.Need-enum-known-next Inv-loop μ-loop
 enum-known-next c = search needs
@@ -45,7 +45,7 @@ same-length-2 : tie.Need-same-length-2 Inv-loop μ-loop
 same-length-2 c = search needs
 
 returns-2 : tie.Need-returns-2 Inv-loop μ-loop
-returns-2 c = closes-at (c .before .before .before .before .loop .inv) (row-closes _ _ _ _ _ (sym (c .before .before .before .int .ensures) ∙ c .before .next .given .1))
+returns-2 c = row-so-far-closes (c .before .before .before .before .loop .inv) (row-closes _ _ _ _ _ (sym (c .before .before .before .int .ensures) ∙ c .before .next .given .1))
 
 enum-told-2 : tie.Need-enum-told-2 Inv-loop μ-loop
 enum-told-2 c = search needs
@@ -57,7 +57,7 @@ same-length-3 : tie.Need-same-length-3 Inv-loop μ-loop
 same-length-3 c = search needs
 
 returns-3 : tie.Need-returns-3 Inv-loop μ-loop
-returns-3 c = stops-at (c .before .before .before .before .loop .inv) _ (c .refuse .ensures) (row-too-big _ _ _ _ _ (sym (c .before .before .before .int .ensures) ∙ c .before .enum-told2 .given .1))
+returns-3 c = row-so-far-stops (c .before .before .before .before .loop .inv) _ (c .refuse .ensures) (row-too-big _ _ _ _ _ (sym (c .before .before .before .int .ensures) ∙ c .before .enum-told2 .given .1))
 
 enum-known-v : tie.Need-enum-known-v Inv-loop μ-loop
 enum-known-v c = search needs
@@ -69,7 +69,7 @@ same-length-4 : tie.Need-same-length-4 Inv-loop μ-loop
 same-length-4 c = search needs
 
 returns-4 : tie.Need-returns-4 Inv-loop μ-loop
-returns-4 c = stops-at (c .before .before .before .before .before .before .loop .inv) _ (c .refuse2 .ensures) (row-full _ _ _ _ _ (sym (c .before .before .before .before .before .int .ensures) ∙ c .before .before .before .v .given .1) (no-room (c .before .before .before .before .before .before .loop .inv .kept) (c .before .if2 .taken)))
+returns-4 c = row-so-far-stops (c .before .before .before .before .before .before .loop .inv) _ (c .refuse2 .ensures) (row-full _ _ _ _ _ (sym (c .before .before .before .before .before .int .ensures) ∙ c .before .before .before .v .given .1) (no-room (c .before .before .before .before .before .before .loop .inv .kept) (c .before .if2 .taken)))
 
 mul-v : tie.Need-mul-v Inv-loop μ-loop
 mul-v c = search needs
@@ -84,8 +84,8 @@ loop-less : tie.Need-loop-less Inv-loop μ-loop
 loop-less c = takes-falls _ _ _ (sym (c .before .before .before .before .before .int .ensures) ∙ c .before .before .before .v .given .1)
 
 loop-again : tie.Need-loop-again Inv-loop μ-loop
-loop-again c = let z = read-back (c .before) in
-    rw z (puts (c .before .before .before .before .before .before .loop .inv) _ _ (c .before .if2 .left) (row-takes _ _ _ _ _ (sym (c .before .before .before .before .before .int .ensures) ∙ c .before .before .before .v .given .1) (room (c .before .before .before .before .before .before .loop .inv .kept) (c .before .if2 .left))))
+loop-again c = let z = literal-back (c .before) in
+    rw z (row-so-far-puts (c .before .before .before .before .before .before .loop .inv) _ _ (c .before .if2 .left) (row-takes _ _ _ _ _ (sym (c .before .before .before .before .before .int .ensures) ∙ c .before .before .before .v .given .1) (room (c .before .before .before .before .before .before .loop .inv .kept) (c .before .if2 .left))))
 
 pub ints-spec : {M : Type 1} → statement M
 ints-spec =
