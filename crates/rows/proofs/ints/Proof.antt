@@ -19,6 +19,10 @@ Inv-loop text at limit held lits₀ place₀ count₀ lits place count = RowSoFa
 abbrev μ-loop : tie.MeasureT-loop
 μ-loop text at limit held lits₀ place₀ count₀ lits place count = length text - place
 
+-- Where the number was read, as seen where it is a literal.
+abbrev number-at : tie.After-v Inv-loop μ-loop → tie.After-int Inv-loop μ-loop
+number-at c = c .before .before
+
 -- The literal as the machine reads it back.
 literal-back : (c : tie.Else2 Inv-loop μ-loop) → toZ w32 (ofZ w32 (c .before .before .v .given .0 .0)) ≡ c .before .before .v .given .0 .0
 literal-back c = search needs
@@ -36,7 +40,9 @@ same-length : tie.Need-same-length Inv-loop μ-loop
 same-length c = search needs
 
 returns : tie.Need-returns Inv-loop μ-loop
-returns c = row-so-far-ends (c .before .before .before .loop .inv) (row-ends _ _ _ _ _ (sym (c .before .before .int .ensures) ∙ c .enum-told .given .1))
+returns c =
+    let number = c .before .before in
+    row-so-far-ends (number .before .loop .inv) (row-ends _ _ _ _ _ (sym (number .int .ensures) ∙ c .enum-told .given .1))
 
 enum-known-next : tie.Need-enum-known-next Inv-loop μ-loop
 enum-known-next c = search needs
@@ -45,7 +51,9 @@ same-length-2 : tie.Need-same-length-2 Inv-loop μ-loop
 same-length-2 c = search needs
 
 returns-2 : tie.Need-returns-2 Inv-loop μ-loop
-returns-2 c = row-so-far-closes (c .before .before .before .before .loop .inv) (row-closes _ _ _ _ _ (sym (c .before .before .before .int .ensures) ∙ c .before .next .given .1))
+returns-2 c =
+    let number = c .before .before .before in
+    row-so-far-closes (number .before .loop .inv) (row-closes _ _ _ _ _ (sym (number .int .ensures) ∙ c .before .next .given .1))
 
 enum-told-2 : tie.Need-enum-told-2 Inv-loop μ-loop
 enum-told-2 c = search needs
@@ -57,7 +65,9 @@ same-length-3 : tie.Need-same-length-3 Inv-loop μ-loop
 same-length-3 c = search needs
 
 returns-3 : tie.Need-returns-3 Inv-loop μ-loop
-returns-3 c = row-so-far-stops (c .before .before .before .before .loop .inv) _ (c .refuse .ensures) (row-too-big _ _ _ _ _ (sym (c .before .before .before .int .ensures) ∙ c .before .enum-told2 .given .1))
+returns-3 c =
+    let number = c .before .before .before in
+    row-so-far-stops (number .before .loop .inv) _ (c .refuse .ensures) (row-too-big _ _ _ _ _ (sym (number .int .ensures) ∙ c .before .enum-told2 .given .1))
 
 enum-known-v : tie.Need-enum-known-v Inv-loop μ-loop
 enum-known-v c = search needs
@@ -69,7 +79,11 @@ same-length-4 : tie.Need-same-length-4 Inv-loop μ-loop
 same-length-4 c = search needs
 
 returns-4 : tie.Need-returns-4 Inv-loop μ-loop
-returns-4 c = row-so-far-stops (c .before .before .before .before .before .before .loop .inv) _ (c .refuse2 .ensures) (row-full _ _ _ _ _ (sym (c .before .before .before .before .before .int .ensures) ∙ c .before .before .before .v .given .1) (no-room (c .before .before .before .before .before .before .loop .inv .kept) (c .before .if2 .taken)))
+returns-4 c =
+    let literal = c .before .before .before in
+    let number = number-at literal in
+    let inv = number .before .loop .inv in
+    row-so-far-stops inv _ (c .refuse2 .ensures) (row-full _ _ _ _ _ (sym (number .int .ensures) ∙ literal .v .given .1) (no-room (inv .kept) (c .before .if2 .taken)))
 
 mul-v : tie.Need-mul-v Inv-loop μ-loop
 mul-v c = search needs
@@ -81,11 +95,18 @@ add-count : tie.Need-add-count Inv-loop μ-loop
 add-count c = search needs
 
 loop-less : tie.Need-loop-less Inv-loop μ-loop
-loop-less c = takes-falls _ _ _ (sym (c .before .before .before .before .before .int .ensures) ∙ c .before .before .before .v .given .1)
+loop-less c =
+    let literal = c .before .before .before in
+    takes-falls _ _ _ (sym (number-at literal .int .ensures) ∙ literal .v .given .1)
 
 loop-again : tie.Need-loop-again Inv-loop μ-loop
-loop-again c = let z = literal-back (c .before) in
-    rw z (row-so-far-puts (c .before .before .before .before .before .before .loop .inv) _ _ (c .before .if2 .left) (row-takes _ _ _ _ _ (sym (c .before .before .before .before .before .int .ensures) ∙ c .before .before .before .v .given .1) (room (c .before .before .before .before .before .before .loop .inv .kept) (c .before .if2 .left))))
+loop-again c =
+    let literal = c .before .before .before in
+    let number = number-at literal in
+    let inv = number .before .loop .inv in
+    let left = c .before .if2 .left in
+    let z = literal-back (c .before) in
+    rw z (row-so-far-puts inv _ _ left (row-takes _ _ _ _ _ (sym (number .int .ensures) ∙ literal .v .given .1) (room (inv .kept) left)))
 
 pub ints-spec : {M : Type 1} → statement M
 ints-spec =
