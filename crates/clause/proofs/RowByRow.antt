@@ -49,7 +49,7 @@ module _ {s : List ℕ} {limit at : ℕ} {old lits : List ℤ} {from held : ℕ}
   over d e b = b ∙ ap (λ l. readBy d ++ l) (beyond (h .kept) (length (readBy d)) (grown d e .0))
 
   -- A row that was read, as the definition has it.
-  by-row : {new : List ℤ} {r : Row} (P : Row → Type 0) → rows.Reads (row s limit (length lits) (reads from (take held lits))) lits new r
+  by-row : {new : List ℤ} {r : Row} (P : Row → Type 0) → rows.ReadsRow (row s limit (length lits) (reads from (take held lits))) lits new r
       → ((d : def.Row) → the-row ≡ d → new ≡ laid (readBy d) lits → P (rowOf d)) → P r
   unfolding the-row
   by-row P g k =
@@ -72,7 +72,7 @@ module _ {s : List ℕ} {limit at : ℕ} {old lits : List ℤ} {from held : ℕ}
   AfterRow new (Closes place count) = ReadsLiterals s limit at old new (Closed count place)
   AfterRow new (Stops x count) = ReadsLiterals s limit at old new (Stopped x count)
 
-  pub after-row : {new : List ℤ} {r m : Row} → rows.Reads (row s limit (length lits) (reads from (take held lits))) lits new r
+  pub after-row : {new : List ℤ} {r m : Row} → rows.ReadsRow (row s limit (length lits) (reads from (take held lits))) lits new r
       → r ≡ m → AfterRow new m
   unfolding the-row
   after-row {new} g e = subst (AfterRow new) e (by-row (AfterRow new) g go)

@@ -16,10 +16,10 @@ use Rattle.dimacs.specs.declared.Assignment.the-variants.{Begun, Closed}
 use Rattle.dimacs.specs.declared.EndOfLine.{EndOfLine}
 use Rattle.dimacs.specs.declared.EndOfLine.the-variants as end
 use Rattle.dimacs.specs.Buffers.{laid}
-use Rattle.rows.specs.Answers.{rowOf, ReadsRow}
+use Rattle.rows.specs.Answers.{rowOf, ReadsRow, ByCount}
 use Rattle.rows.specs.declared.Row.{Row}
 use Rattle.rows.specs.declared.Row.the-variants.{Ends, Closes, Stops}
-use Rattle.log_line.specs.Lines.{logLineOf, lineLeaves, ByCount, ReadsLine}
+use Rattle.log_line.specs.Lines.{logLineOf, lineLeaves, ReadsLine}
 use Rattle.log_line.specs.declared.Log.the-variants.{Refused}
 use Rattle.log_line.specs.declared.Line.{Line}
 use Rattle.log_line.specs.declared.Line.the-variants.{Answer}

@@ -8,7 +8,6 @@ use Rattle.dimacs.specs.Loop.{Step, again, answer}
 use Rattle.dimacs.specs.Names.{numbered}
 use Rattle.dimacs.specs.Logs as def
 use Rattle.dimacs.specs.Buffers.{laid}
-pub use Rattle.rows.specs.Answers.{ByCount}
 use Rattle.log_line.specs.declared.Log.the-variants.{Refused}
 use Rattle.log_line.specs.declared.Reading.{Reading}
 use Rattle.log_line.specs.declared.Line.{Line}

@@ -2,8 +2,9 @@
 ghost use mathlib.Core.Path.{_≡_};
 ghost use lib.ListN.{length, take};
 ghost use Rattle.dimacs.specs.Logs.{verdictOf, lineRead, solutionLine, logEnd, otherLine, valueLine};
+ghost use Rattle.rows.specs.Answers.{ByCount};
 ghost use Rattle.log_line.specs.Answers.{logOf};
-ghost use Rattle.log_line.specs.Lines.{logStateOf, logLineOf, lineRefused, ByCount, ReadsLine};
+ghost use Rattle.log_line.specs.Lines.{logStateOf, logLineOf, lineRefused, ReadsLine};
 use dimacs::ASSIGNMENT_OPEN;
 use dimacs::Assignment;
 use dimacs::CEILING;
