@@ -26,7 +26,8 @@ use Rattle.dimacs.proofs.Tests.{chosen}
 use Rattle.dimacs.proofs.Rows.{Grown, row-grows}
 use Rattle.dimacs.proofs.Buffer.{unchanged, in-place}
 use Rattle.log_line.specs.Answers.{logOf, logLeaves}
-use Rattle.log_line.specs.Lines.{logStateOf, logLineOf, lineLeaves, ByCount, ReadsLine}
+use Rattle.rows.specs.Answers.{ByCount}
+use Rattle.log_line.specs.Lines.{logStateOf, logLineOf, lineLeaves, ReadsLine}
 use Rattle.log_line.specs.declared.Log.{Log}
 use Rattle.log_line.specs.declared.Reading.{Reading}
 use Rattle.log_line.specs.declared.Line.{Line}
