@@ -1,4 +1,4 @@
--- The loop over the rows of a clause: the literals read so far stand at the front of the buffer, and what is read from here on is what is read from
+-- The loop over the rows of a clause: the literals read so far stand at the laid-first of the buffer, and what is read from here on is what is read from
 -- the start. Assumes nothing.
 use Prim.Native.Nat.{ℕ, _-_, _≤_, _<_}
 use mathlib.Core.List.{List, [], _∷_, _++_}
@@ -16,7 +16,7 @@ use Rattle.dimacs.specs.declared.Refusal.{Refusal}
 use Rattle.dimacs.proofs.Spans.{Spans, linebreaks-spans}
 use Rattle.dimacs.proofs.Rows.{RowSpans, row-spans, Grown, row-grows}
 use Rattle.dimacs.proofs.Literals.{closed-by, stopped-by, nothing-there, none-after-lines, none-on-line, breaks}
-use Rattle.dimacs.proofs.Buffer.{Kept, unchanged, counted, beyond, adds, front}
+use Rattle.dimacs.proofs.Buffer.{Kept, kept-unchanged, kept-count, kept-beyond, kept-adds, laid-first}
 use Rattle.rows.specs.Answers as rows
 use Rattle.rows.specs.Answers.{rowOf}
 use Rattle.rows.specs.declared.Row.{Row}
@@ -30,23 +30,23 @@ pub record SoFar (s : List ℕ) (limit at : ℕ) (old lits : List ℤ) (from hel
 
 pub so-far-start : (s : List ℕ) (limit at : ℕ) (old : List ℤ) → SoFar s limit at old old at 0
 unfolding literals
-so-far-start s limit at old = record { kept = unchanged (omega arith); so-far = refl }
+so-far-start s limit at old = record { kept = kept-unchanged (omega arith); so-far = refl }
 
 module _ {s : List ℕ} {limit at : ℕ} {old lits : List ℤ} {from held : ℕ} (h : SoFar s limit at old lits from held) where
   the-row : def.Row
   the-row = row s limit (length old) (reads from (take held lits))
 
-  -- A row adds literals to those before it, as many as the buffer can hold.
+  -- A row kept-adds literals to those before it, as many as the buffer can hold.
   grown : (d : def.Row) → the-row ≡ d → (held ≤ length (readBy d)) × (length (readBy d) ≤ length lits)
   unfolding the-row
   grown d e =
       let g = subst (λ x. Grown (length old) (take held lits) (readBy x)) e (row-grows s limit (length old) (reads from (take held lits))) in
       let k = h .kept .fits in
-      omega (arith, counted (h .kept), h .kept .same)
+      omega (arith, kept-count (h .kept), h .kept .same)
 
   -- The buffer after a row is that after all literals from the start.
   over : {new : List ℤ} (d : def.Row) → the-row ≡ d → new ≡ laid (readBy d) lits → new ≡ laid (readBy d) old
-  over d e b = b ∙ ap (λ l. readBy d ++ l) (beyond (h .kept) (length (readBy d)) (grown d e .0))
+  over d e b = b ∙ ap (λ l. readBy d ++ l) (kept-beyond (h .kept) (length (readBy d)) (grown d e .0))
 
   -- A row that was read, as the definition has it.
   by-row : {new : List ℤ} {r : Row} (P : Row → Type 0) → rows.ReadsRow (row s limit (length lits) (reads from (take held lits))) lits new r
@@ -81,7 +81,7 @@ module _ {s : List ℕ} {limit at : ℕ} {old lits : List ℤ} {from held : ℕ}
       here = reads from (take held lits)
 
       n : length (take held lits) ≡ held
-      n = counted (h .kept)
+      n = kept-count (h .kept)
 
       empty : (so : List ℤ) → length so ≡ 0 → so ≡ []
       empty [] e = refl
@@ -102,5 +102,5 @@ module _ {s : List ℕ} {limit at : ℕ} {old lits : List ℤ} {from held : ℕ}
                 let f = h .so-far ∙ breaks s limit (length old) here e z (λ j. k (j ∙ n)) q is l in
                 let m = subst (RowSpans s from) e (row-spans s limit (length old) here) in
                 let j = linebreaks-spans s p in
-                (rw b (record { kept = adds (h .kept) so (w .0) (w .1); so-far = rw (front so lits) f }), omega arith);
+                (rw b (record { kept = kept-adds (h .kept) so (w .0) (w .1); so-far = rw (laid-first so lits) f }), omega arith);
           }

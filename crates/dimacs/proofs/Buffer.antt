@@ -14,25 +14,25 @@ pub record Kept (old lits : List ℤ) (count : ℕ) : Type 0 where
   pub rest : drop count lits ≡ drop count old
 
 -- A buffer as it came holds any of its literals.
-pub unchanged : {old : List ℤ} {count : ℕ} → count ≤ length old → Kept old old count
-unchanged h = record { fits = h; same = refl; rest = refl }
+pub kept-unchanged : {old : List ℤ} {count : ℕ} → count ≤ length old → Kept old old count
+kept-unchanged h = record { fits = h; same = refl; rest = refl }
 
 module _ {old lits : List ℤ} {count : ℕ} (h : Kept old lits count) where
-  pub counted : length (take count lits) ≡ count
-  counted = length-take-le count lits (h .fits)
+  pub kept-count : length (take count lits) ≡ count
+  kept-count = length-take-le count lits (h .fits)
 
-  pub in-place : lits ≡ laid (take count lits) old
-  in-place = sym (take-append-drop count lits) ∙ rw (counted, h .rest)
+  pub kept-in-place : lits ≡ laid (take count lits) old
+  kept-in-place = sym (take-append-drop count lits) ∙ rw (kept-count, h .rest)
 
-  pub no-room : length lits ≤ count → length old ≤ length (take count lits)
-  no-room k = omega (arith, counted, h .same)
+  pub kept-full : length lits ≤ count → length old ≤ length (take count lits)
+  kept-full k = omega (arith, kept-count, h .same)
 
-  pub room : count < length lits → length (take count lits) < length old
-  room k = omega (arith, counted, h .same)
+  pub kept-room : count < length lits → length (take count lits) < length old
+  kept-room k = omega (arith, kept-count, h .same)
 
   -- One literal more.
-  pub puts : (v : ℤ) → count < length lits → Kept old (set lits count v) (count + 1)
-  puts v k =
+  pub kept-put : (v : ℤ) → count < length lits → Kept old (set lits count v) (count + 1)
+  kept-put v k =
       record {
         fits = simp length-set (omega arith);
         same = length-set lits count v ∙ h .same;
@@ -40,19 +40,19 @@ module _ {old lits : List ℤ} {count : ℕ} (h : Kept old lits count) where
       }
 
   -- Past as many literals or more, the buffer is as it came.
-  pub beyond : (n : ℕ) → count ≤ n → drop n lits ≡ drop n old
-  beyond n k =
+  pub kept-beyond : (n : ℕ) → count ≤ n → drop n lits ≡ drop n old
+  kept-beyond n k =
       let e : count + (n - count) ≡ n = omega arith in
       rw e at (sym (drop-drop (n - count) count lits) ∙ ap (drop (n - count)) (h .rest) ∙ drop-drop (n - count) count old)
 
   -- A callee that adds literals leaves those at the front of the buffer, and the rest as it came.
-  pub adds : (so : List ℤ) → count ≤ length so → length so ≤ length lits → Kept old (laid so lits) (length so)
-  adds so k l =
+  pub kept-adds : (so : List ℤ) → count ≤ length so → length so ≤ length lits → Kept old (laid so lits) (length so)
+  kept-adds so k l =
       record {
         fits = simp length-append (omega arith);
         same = length-append so (drop (length so) lits) ∙ omega (arith, length-drop (length so) lits, h .same);
-        rest = drop-at so (drop (length so) lits) (length so) refl ∙ beyond (length so) k;
+        rest = drop-at so (drop (length so) lits) (length so) refl ∙ kept-beyond (length so) k;
       }
 
-pub front : (so lits : List ℤ) → take (length so) (laid so lits) ≡ so
-front so lits = take-at so (drop (length so) lits) (length so) refl
+pub laid-first : (so lits : List ℤ) → take (length so) (laid so lits) ≡ so
+laid-first so lits = take-at so (drop (length so) lits) (length so) refl

@@ -140,9 +140,9 @@ back {s} {at} {a} h d k = go (d .answer) k
     go (refused r so) k = omega arith
 
 -- A clause begins with literals within reach, or what is answered instead stands there.
-abbrev pub Begins : List ℕ → ℕ → Start → Type 0
-Begins s at (start.Literals extra e absence) = Spans s at e
-Begins s at (start.Instead i) = Onward s at (instead i)
+abbrev pub StartPlaced : List ℕ → ℕ → Start → Type 0
+StartPlaced s at (start.Literals extra e absence) = Spans s at e
+StartPlaced s at (start.Instead i) = Onward s at (instead i)
 
 module _ (s : List ℕ) where
   pub absent-onward : (absence : Absence) (at : ℕ) → Onward s at (instead (absent s absence at))
@@ -152,17 +152,17 @@ module _ (s : List ℕ) where
   absent-onward NoClause at = omega arith
   absent-onward NoLiterals at = omega arith
 
-  start-by-begins : (big : ℕ) (absence : Absence) (at : ℕ) (u : Uint) → UintMoves s at u → Begins s at (startBy s big absence at u)
+  start-by-placed : (big : ℕ) (absence : Absence) (at : ℕ) (u : Uint) → UintMoves s at u → StartPlaced s at (startBy s big absence at u)
   unfolding numbered
-  start-by-begins big absence at uint.Missing m = absent-onward absence at
-  start-by-begins big absence at uint.TooBig m = omega arith
-  start-by-begins big absence at (uint.Value extra e) m = then-spans (omega arith) (linebreaks-spans s e)
+  start-by-placed big absence at uint.Missing m = absent-onward absence at
+  start-by-placed big absence at uint.TooBig m = omega arith
+  start-by-placed big absence at (uint.Value extra e) m = then-spans (omega arith) (linebreaks-spans s e)
 
-  start-begins : (f : Format) (groups : ℕ) (absence : Absence) (at : ℕ) → Begins s at (startAt s f groups absence at)
+  start-placed : (f : Format) (groups : ℕ) (absence : Absence) (at : ℕ) → StartPlaced s at (startAt s f groups absence at)
   unfolding startAt
-  start-begins Plain groups absence at = omega arith
-  start-begins Weighted groups absence at = start-by-begins (numberOf Reason.weightTooBig) absence at (uintAt s largest at) (uint-moves s largest at)
-  start-begins Grouped groups absence at = start-by-begins (numberOf Reason.groupTooBig) absence at (bracedUintAt s groups at) (braced-uint-moves s groups at)
+  start-placed Plain groups absence at = omega arith
+  start-placed Weighted groups absence at = start-by-placed (numberOf Reason.weightTooBig) absence at (uintAt s largest at) (uint-moves s largest at)
+  start-placed Grouped groups absence at = start-by-placed (numberOf Reason.groupTooBig) absence at (bracedUintAt s groups at) (braced-uint-moves s groups at)
 
   finish-onward : (extra at : ℕ) (absence : Absence) (l : Literals) → LiteralsSpan s at l → Onward s at (finish s extra at absence l)
   unfolding closing numbered
@@ -178,9 +178,9 @@ module _ (s : List ℕ) (limits : Limits) (room : ℕ) where
   -- A clause ends within the text and leaves fewer to come; the end is at the text's end; a refusal's place is within reach.
   pub clause-at-onward : (f : Format) (absence : Absence) (at : ℕ) → Onward s at (clauseAt s limits room f absence at)
   unfolding clauseAt
-  clause-at-onward f absence at = go (startAt s f (limits .groups) absence at) (start-begins s f (limits .groups) absence at)
+  clause-at-onward f absence at = go (startAt s f (limits .groups) absence at) (start-placed s f (limits .groups) absence at)
     where
-      go : (x : Start) → Begins s at x → Onward s at (clauseBy s limits room x)
+      go : (x : Start) → StartPlaced s at x → Onward s at (clauseBy s limits room x)
       go (start.Literals extra e a) h =
           let l = literals s (limits .literals) room e in
           back h (finish s extra e a l) (finish-onward s extra e a l (literals-span s (limits .literals) room e))

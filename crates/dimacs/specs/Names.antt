@@ -1,7 +1,6 @@
 -- The numbers by which formats, modes and refusals go outside, and the bounds.
 use Prim.Native.Nat.{ℕ, _-_, _^_}
 use mathlib.Core.List.{List}
-use mathlib.Core.Option.{Option, some, none}
 use mathlib.Core.Bool.{cond}
 use lib.Dec.{eqb}
 use Rattle.dimacs.specs.declared.Format.{Format}
@@ -44,14 +43,6 @@ kindIn m f =
 -- What the numbers of a format and a mode name.
 unfoldable pub kindOf : ℕ → ℕ → Kind
 kindOf f m = cond (eqb m 0) (kindIn Strict f) (cond (eqb m 1) (kindIn Lenient f) Unknown)
-
--- The format of clauses that a number names.
-abbrev pub formatOf : ℕ → Option Format
-formatOf n = cond (eqb n 0) (some Plain) (cond (eqb n 1) (some Weighted) (cond (eqb n 2) (some Grouped) none))
-
--- The mode that a number names.
-abbrev pub modeOf : ℕ → Option Mode
-modeOf n = cond (eqb n 0) (some Strict) (cond (eqb n 1) (some Lenient) none)
 
 -- Why something is refused.
 pub data Reason : Type 0 where

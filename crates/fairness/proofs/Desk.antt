@@ -93,9 +93,9 @@ module _ (t : Tray) (l : length (t .jobs) ≡ places) where
 -- What a caller reads in an answer and the buffer after it is what was said.
 read-back : (r : Reply) (old : List ℤ) → replyIn (laid (literalsIn r) old) (saidOf r) ≡ r
 read-back (opening o) old = refl
-read-back (answering (def.clause extra so)) old = ap (λ l. answering (def.clause extra l)) (buffer.front so old)
+read-back (answering (def.clause extra so)) old = ap (λ l. answering (def.clause extra l)) (buffer.laid-first so old)
 read-back (answering def.ended) old = refl
-read-back (answering (def.refused r so)) old = ap (λ l. answering (def.refused r l)) (buffer.front so old)
+read-back (answering (def.refused r so)) old = ap (λ l. answering (def.refused r l)) (buffer.laid-first so old)
 
 module _ (t : Tray) (l : length (t .jobs) ≡ places) where
   abbrev turnViewed : List ℤ → TurnDone → Done (Round Job) Reply

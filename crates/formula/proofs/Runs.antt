@@ -29,7 +29,7 @@ use Rattle.clause.specs.declared.Next.the-variants as next
 use Rattle.formula.specs.declared.Cursor.{Cursor}
 use Rattle.formula.specs.declared.Opened.{Opened}
 use Rattle.formula.specs.declared.Stepped.{Stepped}
-use Rattle.formula.specs.Cursors.{cursorOf, begunBy, openedBy, openedAs, opened, after, stepOf, Steps}
+use Rattle.formula.specs.Cursors.{cursorOf, begunBy, openedBy, openedAs, opened, cursorAfter, stepOf, Steps}
 use Rattle.formula.specs.declared.Outcome.the-variants as outcome
 use Rattle.formula.specs.Whole.{outcomeBy, outcomeOfText, outcomeIn, outcomeFrom, Call, callBy, call, calls, callOf}
 
@@ -50,7 +50,7 @@ unfolding texts.turn
 call-carried s f limits room c = let d = texts.answerAt s f limits room c in go (d .place) (d .answer)
   where
     go : (e : ℕ) (a : def.Answer)
-        → callBy (callOf a) (after (cursorOf f limits c) e (nextOf a)) (nextOf a)
+        → callBy (callOf a) (cursorAfter (cursorOf f limits c) e (nextOf a)) (nextOf a)
         ≡ carried (cursorOf f limits) callOf (texts.turnBy (texts.settledBy (c .count) e (texts.finalOf a)) a)
     go e (def.clause extra so) = refl
     go e def.ended = refl
@@ -99,7 +99,7 @@ leads-at s room f limits at count final.Open =
 
     go : (e : ℕ) (a : def.Answer) → Placed s at e a
         → outcomeBy (texts.answersFrom s f limits room here) ≡ outcomeBy (andOn (texts.turnBy (texts.settledBy count e (texts.finalOf a)) a) (texts.answersFrom s f limits room))
-        → CallLeads s room (cursorOf f limits here) (after (cursorOf f limits here) e (nextOf a)) (nextOf a)
+        → CallLeads s room (cursorOf f limits here) (cursorAfter (cursorOf f limits here) e (nextOf a)) (nextOf a)
     go e (def.clause extra so) h k = (k, h .fewer)
     go e def.ended h k = k
     go e (def.refused r so) h k = k

@@ -87,12 +87,12 @@ lastOf next.Ended = final.Ended
 lastOf (next.Refused r n) = final.Refused r
 
 -- The cursor after an answer at a place.
-abbrev pub after : Cursor → ℕ → Next → Cursor
-after c at a = cursorOf (c .format) (c .limits) (texts.settledBy (c .progress .count) at (lastOf a))
+abbrev pub cursorAfter : Cursor → ℕ → Next → Cursor
+cursorAfter c at a = cursorOf (c .format) (c .limits) (texts.settledBy (c .progress .count) at (lastOf a))
 
 -- An answer of the code, and the cursor after it.
 abbrev pub settledAs : Cursor → Answered → Stepped
-settledAs c a = record { answer = a .answer; cursor = after c (a .place) (a .answer) }
+settledAs c a = record { answer = a .answer; cursor = cursorAfter c (a .place) (a .answer) }
 
 -- One call: its answer, and the cursor after it.
 abbrev pub stepOf : List ℕ → ℕ → Cursor → Stepped

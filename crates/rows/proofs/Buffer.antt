@@ -10,7 +10,7 @@ use lib.IntN.{ℤ}
 use Rattle.dimacs.specs.Rows.{Row, ends, closes, stops, reads, row}
 use Rattle.dimacs.specs.declared.Refusal.{Refusal}
 use Rattle.dimacs.proofs.Buffer as buffer
-use Rattle.dimacs.proofs.Buffer.{Kept, unchanged, counted, in-place}
+use Rattle.dimacs.proofs.Buffer.{Kept, kept-unchanged, kept-count, kept-in-place}
 use Rattle.rows.specs.Answers.{ReadsRow}
 use Rattle.rows.specs.declared.Row as answer
 use Rattle.rows.specs.declared.Row.the-variants.{Ends, Closes, Stops}
@@ -24,27 +24,27 @@ pub record RowSoFar (s : List ℕ) (limit at held : ℕ) (old lits : List ℤ) (
   pub so-far : row s limit (length old) (reads at (take held old)) ≡ row s limit (length old) (reads place (take count lits))
 
 pub row-so-far-start : {s : List ℕ} {limit at : ℕ} {old : List ℤ} (held count : ℕ) → count ≡ held → held ≤ length old → RowSoFar s limit at held old old at count
-row-so-far-start held count e h = rw e (record { kept = unchanged h; so-far = refl })
+row-so-far-start held count e h = rw e (record { kept = kept-unchanged h; so-far = refl })
 
 -- A full buffer holds no more than its length.
 pub row-so-far-full : {s : List ℕ} {limit at : ℕ} {old : List ℤ} (held count : ℕ) → count ≡ length old → length old ≤ held → RowSoFar s limit at held old old at count
-row-so-far-full {old = old} held count e h = rw e (record { kept = unchanged (omega arith); so-far = rw (take-all held old h, take-length old) })
+row-so-far-full {old = old} held count e h = rw e (record { kept = kept-unchanged (omega arith); so-far = rw (take-all held old h, take-length old) })
 
 module _ {s : List ℕ} {limit at held : ℕ} {old lits : List ℤ} {place count : ℕ} (h : RowSoFar s limit at held old lits place count) where
   pub row-so-far-ends : {n : ℕ} → row s limit (length old) (reads place (take count lits)) ≡ ends n (take count lits)
       → ReadsRow (row s limit (length old) (reads at (take held old))) old lits (Ends n count)
-  row-so-far-ends e = record { row = rw (h .so-far ∙ e, counted (h .kept)); buffer = rw (h .so-far ∙ e) (in-place (h .kept)) }
+  row-so-far-ends e = record { row = rw (h .so-far ∙ e, kept-count (h .kept)); buffer = rw (h .so-far ∙ e) (kept-in-place (h .kept)) }
 
   pub row-so-far-closes : {n : ℕ} → row s limit (length old) (reads place (take count lits)) ≡ closes n (take count lits)
       → ReadsRow (row s limit (length old) (reads at (take held old))) old lits (Closes n count)
-  row-so-far-closes e = record { row = rw (h .so-far ∙ e, counted (h .kept)); buffer = rw (h .so-far ∙ e) (in-place (h .kept)) }
+  row-so-far-closes e = record { row = rw (h .so-far ∙ e, kept-count (h .kept)); buffer = rw (h .so-far ∙ e) (kept-in-place (h .kept)) }
 
   pub row-so-far-stops : {x : Refusal} (r : Refusal) → r ≡ x → row s limit (length old) (reads place (take count lits)) ≡ stops x (take count lits)
       → ReadsRow (row s limit (length old) (reads at (take held old))) old lits (Stops r count)
-  row-so-far-stops r is e = record { row = rw (h .so-far ∙ e, counted (h .kept), is); buffer = rw (h .so-far ∙ e) (in-place (h .kept)) }
+  row-so-far-stops r is e = record { row = rw (h .so-far ∙ e, kept-count (h .kept), is); buffer = rw (h .so-far ∙ e) (kept-in-place (h .kept)) }
 
   -- One literal more.
   pub row-so-far-puts : (v : ℤ) (q : ℕ) → count < length lits
       → row s limit (length old) (reads place (take count lits)) ≡ row s limit (length old) (reads q (take count lits ++ (v ∷ [])))
       → RowSoFar s limit at held old (set lits count v) q (count + 1)
-  row-so-far-puts v q k e = record { kept = buffer.puts (h .kept) v k; so-far = h .so-far ∙ e ∙ rw (add-one, take-suc-set lits count v k) }
+  row-so-far-puts v q k e = record { kept = buffer.kept-put (h .kept) v k; so-far = h .so-far ∙ e ∙ rw (add-one, take-suc-set lits count v k) }

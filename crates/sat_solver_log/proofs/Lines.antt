@@ -24,7 +24,7 @@ use Rattle.dimacs.specs.declared.Verdict.{Verdict}
 use Rattle.dimacs.specs.declared.Verdict.the-variants.{Yes, No, Unknown}
 use Rattle.dimacs.proofs.Tests.{chosen}
 use Rattle.dimacs.proofs.Rows.{Grown, row-grows}
-use Rattle.dimacs.proofs.Buffer.{unchanged, in-place}
+use Rattle.dimacs.proofs.Buffer.{kept-unchanged, kept-in-place}
 use Rattle.log_line.specs.Answers.{logOf, logLeaves}
 use Rattle.rows.specs.Answers.{ByCount}
 use Rattle.log_line.specs.Lines.{logStateOf, logLineOf, lineLeaves, ReadsLine}
@@ -65,7 +65,7 @@ lineAt s mode lits x = def.logLine s mode (length lits) (logStateOf x (take (x .
 
 -- A line that adds none leaves the buffer.
 line-adds-none : {d e : Step def.Log def.LogAnswer} {old : List ℤ} {count : ℕ} {r : Line} → count ≤ length old → d ≡ e → lineLeaves e ≡ take count old → r ≡ logLineOf e → ReadsLine d old old r
-line-adds-none h k l is = record { line = is ∙ ap logLineOf (sym k); buffer = rw (k, l) (in-place (unchanged h)) }
+line-adds-none h k l is = record { line = is ∙ ap logLineOf (sym k); buffer = rw (k, l) (kept-in-place (kept-unchanged h)) }
 
 -- First bytes that are looked for only if a test fails.
 module _ (t : Bool) (v w at : ℕ) (is : v ≡ cond t at w) where

@@ -13,7 +13,7 @@ use Rattle.dimacs.specs.declared.Assignment.the-variants.{Unbegun}
 use Rattle.dimacs.proofs.Loops.{after}
 use Rattle.dimacs.proofs.Logs.{LineLeads, log-line-leads, log-step}
 use Rattle.dimacs.specs.Buffers.{laid}
-use Rattle.dimacs.proofs.Buffer.{Kept, unchanged, counted, beyond, adds, front}
+use Rattle.dimacs.proofs.Buffer.{Kept, kept-unchanged, kept-count, kept-beyond, kept-adds, laid-first}
 use Rattle.log_line.specs.Answers.{logOf, logLeaves}
 use Rattle.log_line.specs.Lines.{logStateOf, readingOf, logLineOf, lineLeaves, ReadsLine}
 use Rattle.log_line.specs.declared.Log.{Log}
@@ -39,21 +39,21 @@ parses-fit {d} {old} {new} p g = subst (LogCountFits (length new)) (sym (p .answ
     go (def.accepted v so) e = rw e (omega (arith, length-append so (drop (length so) old)))
     go (def.refusedLog r so) e = rw e (omega (arith, length-append so (drop (length so) old)))
 
--- The literals so far stand at the front of the buffer, and the log from here on is the log from the start.
+-- The literals so far stand at the laid-first of the buffer, and the log from here on is the log from the start.
 pub record LogSoFar (s : List ℕ) (mode : Mode) (old lits : List ℤ) (x : Reading) : Type 0 where
   pub kept : Kept old lits (x .count)
   pub so-far : def.log s mode (length old) ≡ def.logFrom s mode (length old) (logStateOf x (take (x .count) lits))
 
 pub log-so-far-start : (s : List ℕ) (mode : Mode) (old : List ℤ) → LogSoFar s mode old old (record { place = 0; solution = Unsaid; assignment = Unbegun; count = 0 })
 unfolding def.log
-log-so-far-start s mode old = record { kept = unchanged (omega arith); so-far = refl }
+log-so-far-start s mode old = record { kept = kept-unchanged (omega arith); so-far = refl }
 
 module _ {s : List ℕ} {mode : Mode} {old lits : List ℤ} {x : Reading} (h : LogSoFar s mode old lits x) where
   log-so-far-step : def.log s mode (length old) ≡ after (lineAt s mode lits x) (def.logFrom s mode (length old))
   log-so-far-step = rw (h .kept .same) (h .so-far ∙ log-step s mode (length old) (logStateOf x (take (x .count) lits)))
 
   log-so-far-grows : (x .count ≤ length (lineLeaves (lineAt s mode lits x))) × (length (lineLeaves (lineAt s mode lits x)) ≤ length lits)
-  log-so-far-grows = let k = h .kept .fits in omega (arith, log-line-grows s mode (length lits) (logStateOf x (take (x .count) lits)), counted (h .kept))
+  log-so-far-grows = let k = h .kept .fits in omega (arith, log-line-grows s mode (length lits) (logStateOf x (take (x .count) lits)), kept-count (h .kept))
 
   -- On to the next line, which is further on.
   pub log-so-far-on : {new : List ℤ} {y : Reading} → ReadsLine (lineAt s mode lits x) lits new (Again y) → LogSoFar s mode old new y × (length s - y .place < length s - x .place)
@@ -65,7 +65,7 @@ module _ {s : List ℕ} {mode : Mode} {old lits : List ℤ} {x : Reading} (h : L
       go (again l) e k m a b =
           let q : readingOf l ≡ y = cc in
           subst (λ z. LogSoFar s mode old new z × (length s - z .place < length s - x .place)) q
-          (rw b (record { kept = adds (h .kept) (l .so) (k .0) (k .1); so-far = rw (front (l .so) lits) e }), omega arith)
+          (rw b (record { kept = kept-adds (h .kept) (l .so) (k .0) (k .1); so-far = rw (laid-first (l .so) lits) e }), omega arith)
       go (answer _) e k m a b = absurd (let z : _≡_ {A = ℕ} 0 1 = cc in omega arith)
 
   pub log-so-far-answered : {new : List ℤ} {a : Log} → ReadsLine (lineAt s mode lits x) lits new (Answer a) → Parses (def.log s mode (length old)) old new a
@@ -77,4 +77,4 @@ module _ {s : List ℕ} {mode : Mode} {old lits : List ℤ} {x : Reading} (h : L
       go (again _) e k i b = absurd (let z : _≡_ {A = ℕ} 0 1 = cc in omega arith)
       go (answer d) e k i b =
           let q : a ≡ logOf d = cc in
-          rw e (record { answer = q; buffer = b ∙ rw (beyond (h .kept) (length (logLeaves d)) (k .0)) })
+          rw e (record { answer = q; buffer = b ∙ rw (kept-beyond (h .kept) (length (logLeaves d)) (k .0)) })

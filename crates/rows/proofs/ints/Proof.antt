@@ -6,7 +6,7 @@ use lib.ListN.{length}
 use mir.Syntax.{w32}
 use mir.Val.{toZ, ofZ}
 use Rattle.dimacs.proofs.Rows.{row-ends, row-closes, row-too-big, row-full, row-takes, takes-falls}
-use Rattle.dimacs.proofs.Buffer.{no-room, room}
+use Rattle.dimacs.proofs.Buffer.{kept-full, kept-room}
 use Rattle.rows.proofs.Buffer.{RowSoFar, row-so-far-start, row-so-far-full, row-so-far-ends, row-so-far-closes, row-so-far-stops, row-so-far-puts}
 use borrow.Author.Needs.{needs}
 use native.Mathlib.Omega.{arith}
@@ -83,7 +83,7 @@ returns-4 c =
     let literal = c .before .before .before in
     let number = number-at literal in
     let inv = number .before .loop .inv in
-    row-so-far-stops inv _ (c .refuse2 .ensures) (row-full _ _ _ _ _ (sym (number .int .ensures) ∙ literal .v .given .1) (no-room (inv .kept) (c .before .if2 .taken)))
+    row-so-far-stops inv _ (c .refuse2 .ensures) (row-full _ _ _ _ _ (sym (number .int .ensures) ∙ literal .v .given .1) (kept-full (inv .kept) (c .before .if2 .taken)))
 
 mul-v : tie.Need-mul-v Inv-loop μ-loop
 mul-v c = search needs
@@ -106,7 +106,7 @@ loop-again c =
     let inv = number .before .loop .inv in
     let left = c .before .if2 .left in
     let z = literal-back (c .before) in
-    rw z (row-so-far-puts inv _ _ left (row-takes _ _ _ _ _ (sym (number .int .ensures) ∙ literal .v .given .1) (room (inv .kept) left)))
+    rw z (row-so-far-puts inv _ _ left (row-takes _ _ _ _ _ (sym (number .int .ensures) ∙ literal .v .given .1) (kept-room (inv .kept) left)))
 
 pub ints-spec : {M : Type 1} → statement M
 ints-spec =
