@@ -1,37 +1,39 @@
 -- The tray keeps its promises: what holds of the round holds of the record, over any calls from the fresh one. Assumes nothing.
 use Prim.Native.Nat.{ℕ, _+_, _-_, _%_, _≤_, _<_}
+use mathlib.Core.Bool.{Bool}
 use mathlib.Core.List.{List, [], _∷_}
-use mathlib.Core.Option.{some}
 use mathlib.Core.Path.{_≡_, refl, ap, sym, _∙_, subst}
 use native.Mathlib.Omega.{arith}
 use lib.ListN.{length, length-set}
 use lib.Dec.{leb, ltb, eqb}
 use lib.IntN.{ℤ}
-use Rattle.dimacs.specs.Names.{formatOf, modeOf, largest, ownRoom, places}
+use Rattle.dimacs.specs.Names.{kindOf, largest, ownRoom, places}
 use Rattle.dimacs.specs.declared.Format.{Format}
+use Rattle.dimacs.specs.declared.Kind.{Kind}
+use Rattle.dimacs.specs.declared.Kind.the-variants.{Unknown, Clauses, Log}
 use Rattle.dimacs.specs.declared.Mode.{Mode}
 use Rattle.dimacs.proofs.Tests.{tested}
 use Rattle.rota.specs.Rota as rota
-use Rattle.rota.specs.Rota.{Call, put, turn, withdraw, Answer, refused, ticketed, withdrawn, ticketIn, Done, does, answers, finally, heard, Round, fresh}
+use Rattle.rota.specs.Rota.{Call, put, turn, withdraw, Answer, refused, ticketed, told, withdrawn, ticketIn, Done, does, answers, finally, heard, Round, fresh}
 use Rattle.rota.proofs.Account.{account, in-order}
 use Rattle.rota.proofs.Tickets.{Sound, sound, sound-call}
 use Rattle.rota.proofs.Gone.{no-more}
 use Rattle.rota.proofs.Waiting.{Stands}
-use Rattle.rota.proofs.Fair.{entered, fair}
+use Rattle.rota.proofs.Fair.{put-stands, fair}
 use Rattle.rota.proofs.Alone.{alone}
 use Rattle.service.specs.declared.Stage.the-variants as stage
-use Rattle.tray.specs.declared.Job.{Job}
-use Rattle.tray.specs.declared.Tray.{Tray}
-use Rattle.tray.specs.declared.Named.{Named}
-use Rattle.tray.specs.declared.Named.the-variants as named
+use Rattle.ring.specs.declared.Job.{Job}
+use Rattle.ring.specs.declared.Tray.{Tray}
+use Rattle.ring.specs.declared.Front.{Front}
+use Rattle.ring.specs.declared.Front.the-variants as front
+use Rattle.ring.specs.Ring.{jobOf, emptyTray, howMany, waiting, placeBehind, frontOf, joined, frontDropped, goesOn, passed, ahead, takenOut}
 use Rattle.service.specs.declared.Goes.{Goes}
 use Rattle.service.specs.declared.Goes.the-variants.{On, Over}
-use Rattle.service.specs.declared.Said.{Said}
-use Rattle.service.specs.Serving.{within, Reply, servedOf}
-use Rattle.tray.specs.Ring.{emptyTray, held, waiting, behind, front, Put, putBy, namedBy, jobOf, entered as enteredAs, serve, goesOn, wentBy, turnOf, bufferOf, Turns, ahead, withdrawOf}
+use Rattle.service.specs.Serving.{within, Reply}
+use Rattle.tray.specs.Calls.{Put, ticketGiven, entered, putAs, serve, turnFor, turnOf, bufferFor, bufferOf, Turns, withdrawOf}
 use Rattle.tray.specs.declared.TurnDone.{TurnDone}
 use Rattle.tray.specs.Answers.{putSays, turnSays, withdrawSays}
-use Rattle.fairness.specs.Promises.{Lent, Calls, did, BufferKept, Refusals, answered, left, thenPut, since, Holds, saidAlone, Account, Tickets, Few, Bound, Content, Demand, Silence}
+use Rattle.fairness.specs.Promises.{Lent, Calls, did, BufferKept, Refusals, answered, left, thenPut, since, Holds, saidAlone, Account, Tickets, EnoughPlaces, Bound, Content, Demand, Silence}
 use Rattle.fairness.proofs.Rings.{length-moved}
 use Rattle.fairness.proofs.Desk.{view, desk, call-is}
 use Rattle.fairness.proofs.Reader.{leftOf, falls, PartOf, lasts, Begins, entry-begins, lawful, solo, alike, whole}
@@ -44,10 +46,11 @@ turn-did h = rw (h .done, h .buffer)
 ticketless : (x : Answer Reply) (n : ℕ) → x ≡ refused n → ticketIn x ≡ 0
 ticketless x n h = rw h
 
-put-refused : (t : Tray) (p : Put) (x : Named) (n : ℕ) → putSays (putBy t p x .answer) ≡ refused n → putBy t p x .tray ≡ t
-unfolding enteredAs
-put-refused t p named.Unknown n h = refl
-put-refused t p (named.Begins s) n h =
+put-refused : (t : Tray) (p : Put) (x : Kind) (n : ℕ) → putSays (putAs t p x .answer) ≡ refused n → putAs t p x .tray ≡ t
+unfolding entered
+put-refused t p Unknown n h = refl
+put-refused t p (Log m) n h = refl
+put-refused t p (Clauses f m) n h =
     tested (within (p .start) (p .length) (p .lent))
     (λ w. tested (leb places (t .count)) (λ a. rw (w, a)) (λ a. tested (leb largest (t .given)) (λ b. rw (w, a, b)) (λ b. given (rw (w, a, b) at h))))
     (λ w. rw w)
@@ -57,52 +60,67 @@ put-refused t p (named.Begins s) n h =
 
 turn-refused : (t : Tray) (e : Lent) (n : ℕ) → did t (turn e) .answer ≡ refused n → (did t (turn e) .after ≡ t) × BufferKept t (turn e)
 unfolding turnOf bufferOf
-turn-refused t e n h =
-    tested (eqb (t .count) 0) (λ a. rw a (refl, refl))
-    (λ a. tested (ltb (length (e .buffer)) ownRoom) (λ b. rw (a, b) (refl, refl))
-    (λ b. let v = servedOf (serve (e .area) (front t)) in served _ (v .said) (v .goes) (rw (a, b) at h)))
+turn-refused t e n h = go (frontOf (waiting t)) h
   where
-    served : {X : Type 0} (new : List ℤ) (a : Said) (g : Goes) → turnSays new (wentBy t a g .answer) ≡ refused n → X
-    served new a (On c) k = let z : _≡_ {A = ℕ} 0 1 = cc in absurd (omega arith)
-    served new a Over k = let z : _≡_ {A = ℕ} 0 1 = cc in absurd (omega arith)
+    given : {X : Type 0} {k : ℕ} {a : Reply} {b : Bool} → _≡_ {A = Answer Reply} (told k a b) (refused n) → X
+    given e = let z : _≡_ {A = ℕ} 0 1 = cc in absurd (omega arith)
+
+    go : (x : Front) → let d = turnFor t (e .area) (length (e .buffer)) x in let new = bufferFor (e .area) (e .buffer) x in
+        turnSays new (d .answer) ≡ refused n → (d .tray ≡ t) × (new ≡ e .buffer)
+    go front.Nothing k = (refl, refl)
+    go (front.Waits j) k =
+        tested (ltb (length (e .buffer)) ownRoom) (λ b. rw b (refl, refl))
+        (λ b. given (rw b at k))
 
 withdraw-refused : (t : Tray) (k n : ℕ) → withdrawSays (withdrawOf t k .answer) ≡ refused n → withdrawOf t k .tray ≡ t
-unfolding withdrawOf
-withdraw-refused t k n h = tested (ltb (ahead k (waiting t)) (held t)) (λ a. gone (rw a at h)) (λ a. rw a)
+unfolding withdrawOf takenOut
+withdraw-refused t k n h = tested (ltb (ahead k (waiting t)) (howMany t)) (λ a. gone (rw a at h)) (λ a. rw a)
   where
     gone : {X : Type 0} → _≡_ {A = Answer Reply} (withdrawn k) (refused n) → X
     gone e = let z : _≡_ {A = ℕ} 0 1 = cc in absurd (omega arith)
 
 pub tray-refusals : Refusals
-tray-refusals t (put p) n h = (ticketless (did t (put p) .answer) n h, put-refused t p (namedBy (formatOf (p .format)) (modeOf (p .mode))) n h, tt)
+tray-refusals t (put p) n h = (ticketless (did t (put p) .answer) n h, put-refused t p (kindOf (p .format) (p .mode)) n h, tt)
 tray-refusals t (turn e) n h = let k = turn-refused t e n h in (ticketless (did t (turn e) .answer) n h, k .0, k .1)
 tray-refusals t (withdraw k) n h = (ticketless (did t (withdraw k) .answer) n h, withdraw-refused t k n h, tt)
 
 -- A tray keeps all its places.
-length-put : (t : Tray) (p : Put) (x : Named) → length (putBy t p x .tray .jobs) ≡ length (t .jobs)
-unfolding enteredAs
-length-put t p named.Unknown = refl
-length-put t p (named.Begins s) =
+length-joined : (t : Tray) (j : Job) → length (joined t j .jobs) ≡ length (t .jobs)
+unfolding joined
+length-joined t j = tested (leb places (t .count)) (λ a. rw a) (λ a. rw a (length-set (t .jobs) (placeBehind t (t .count)) j))
+
+length-dropped : (t : Tray) → length (frontDropped t .jobs) ≡ length (t .jobs)
+unfolding frontDropped
+length-dropped t = tested (eqb (howMany t) 0) (λ a. rw a) (λ a. rw a)
+
+length-passed : (t : Tray) (j : Job) (g : Goes) → length (passed t j g .jobs) ≡ length (t .jobs)
+length-passed t j (On c) = length-joined (frontDropped t) (goesOn j c) ∙ length-dropped t
+length-passed t j Over = length-dropped t
+
+length-put : (t : Tray) (p : Put) (x : Kind) → length (putAs t p x .tray .jobs) ≡ length (t .jobs)
+unfolding entered
+length-put t p Unknown = refl
+length-put t p (Log m) = refl
+length-put t p (Clauses f m) =
     tested (within (p .start) (p .length) (p .lent))
     (λ w. tested (leb places (t .count)) (λ a. rw (w, a))
     (λ a. tested (leb largest (t .given)) (λ b. rw (w, a, b))
-    (λ b. rw (w, a, b) (length-set (t .jobs) (behind t (t .count)) (jobOf (t .given + 1) (p .start) (p .length) s)))))
+    (λ b. rw (w, a, b) (length-joined (ticketGiven t (t .given + 1)) (jobOf (t .given + 1) (p .start) (p .length) (stage.Fresh f m))))))
     (λ w. rw w)
 
-length-went : (t : Tray) (a : Said) (g : Goes) → length (wentBy t a g .tray .jobs) ≡ length (t .jobs)
-length-went t a (On c) = length-set (t .jobs) (behind t (held t)) (goesOn (front t) c)
-length-went t a Over = refl
+length-turn : (t : Tray) (e : Lent) (x : Front) → length (turnFor t (e .area) (length (e .buffer)) x .tray .jobs) ≡ length (t .jobs)
+length-turn t e front.Nothing = refl
+length-turn t e (front.Waits j) =
+    tested (ltb (length (e .buffer)) ownRoom) (λ b. rw b)
+    (λ b. rw b (length-passed t j (serve (e .area) j .goes)))
 
 length-call : (t : Tray) (c : Call Put Lent) → length (did t c .after .jobs) ≡ length (t .jobs)
-unfolding turnOf withdrawOf
-length-call t (put p) = length-put t p (namedBy (formatOf (p .format)) (modeOf (p .mode)))
-length-call t (turn e) =
-    tested (eqb (t .count) 0) (λ a. rw a)
-    (λ a. tested (ltb (length (e .buffer)) ownRoom) (λ b. rw (a, b))
-    (λ b. rw (a, b) (let v = servedOf (serve (e .area) (front t)) in length-went t (v .said) (v .goes))))
+unfolding turnOf withdrawOf takenOut
+length-call t (put p) = length-put t p (kindOf (p .format) (p .mode))
+length-call t (turn e) = length-turn t e (frontOf (waiting t))
 length-call t (withdraw k) =
     let i = ahead k (waiting t) in
-    tested (ltb i (held t)) (λ a. rw a (length-moved (held t - (i + 1)) (t .jobs) (t .head % places) i)) (λ a. rw a)
+    tested (ltb i (howMany t)) (λ a. rw a (length-moved (howMany t - (i + 1)) (t .jobs) (t .head % places) i)) (λ a. rw a)
 
 -- Any calls on a record are those calls on the round for which it stands.
 answers-are : (cs : Calls) (t : Tray) → length (t .jobs) ≡ places → answers did t cs ≡ answers (rota.call desk) (view t) cs
@@ -143,8 +161,8 @@ tray-account cs = let w = ap (λ v. length (v .waiting)) (left-is cs) in rw (ans
 pub tray-tickets : Tickets
 tray-tickets cs = rw (answered-are cs) (in-order desk cs)
 
-pub tray-few : Few
-tray-few cs = subst (λ v. length (v .waiting) ≤ places) (sym (left-is cs)) (sound desk lawful cs .few)
+pub tray-enough-places : EnoughPlaces
+tray-enough-places cs = subst (λ v. length (v .waiting) ≤ places) (sym (left-is cs)) (sound desk lawful cs .places-enough)
 
 pub tray-silence : Silence
 tray-silence before after k h =
@@ -171,24 +189,22 @@ module _ (before : Calls) (p : Put) where
   record Waits (k : ℕ) : Type 0 where
     format : Format
     mode : Mode
-    format-known : formatOf (p .format) ≡ some format
-    mode-known : modeOf (p .mode) ≡ some mode
+    kind-known : kindOf (p .format) (p .mode) ≡ Clauses format mode
     ahead-of : ℕ
     below : ahead-of < places
     stands : Stands (jobOf k (p .start) (p .length) (stage.Fresh format mode)) ahead-of (then .after .waiting)
 
   then-waits : (k : ℕ) → thenPut before p .answer ≡ ticketed k → Waits k
   then-waits k h =
-      let n = entered desk (finally (rota.call desk) fresh before) p k (sym (ap (λ d. d .answer) then-is) ∙ h) in
+      let n = put-stands desk (finally (rota.call desk) fresh before) p k (sym (ap (λ d. d .answer) then-is) ∙ h) in
       let b = entry-begins p (n .made .0) (n .made .1) in
       record {
         format = b .format;
         mode = b .mode;
-        format-known = b .format-known;
-        mode-known = b .mode-known;
-        ahead-of = n .ahead;
-        below = n .few;
-        stands = subst (λ j. Stands j (n .ahead) (then .after .waiting)) (n .made .2 ∙ ap (λ f. f k) (b .is)) (n .stands);
+        kind-known = b .kind-known;
+        ahead-of = n .ahead-of;
+        below = n .below;
+        stands = subst (λ j. Stands j (n .ahead-of) (then .after .waiting)) (n .made .2 ∙ ap (λ f. f k) (b .is)) (n .stands);
       }
 
 pub tray-bound : Bound
@@ -200,11 +216,12 @@ tray-bound before p after k h w n =
     (then-sound before p) (a .stands) (rw e at w) (omega (arith, a .below, rw e at n)))
 
 pub tray-content : Content
-tray-content before p after k f m bytes hf hm h w o =
+tray-content before p after k f m bytes q h w o =
     let a = then-waits before p k h in
     let e = since-are before p after in
-    let i : a .format ≡ f = let q = a .format-known in cc in
-    let j : a .mode ≡ m = let q = a .mode-known in cc in
+    let known = a .kind-known in
+    let i : a .format ≡ f = cc in
+    let j : a .mode ≡ m = cc in
     let job = jobOf k (p .start) (p .length) (stage.Fresh f m) in
     let s : Stands job (a .ahead-of) (then before p .after .waiting) = rw (i, j) at (a .stands) in
     rw e
@@ -212,4 +229,4 @@ tray-content before p after k f m bytes hf hm h w o =
     (refl, refl) (then-sound before p) s (whole bytes k (p .start) (p .length) f m) (rw e at w) (rw e at o))
 
 pub tray-demand : Demand
-tray-demand before p after k f m bytes hf hm h w o n = tray-content before p after k f m bytes hf hm h w o .all (tray-bound before p after k h w n)
+tray-demand before p after k f m bytes q h w o n = tray-content before p after k f m bytes q h w o .all (tray-bound before p after k h w n)

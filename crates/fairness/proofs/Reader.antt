@@ -7,13 +7,16 @@ use mathlib.Core.Path.{_≡_, refl, ap, sym, subst}
 use native.Mathlib.Omega.{arith}
 use borrow.Author.Tests.{le-leb, leb-true}
 use lib.ListN.{length, take, drop, length-take, length-drop}
-use Rattle.dimacs.specs.Names.{formatOf, modeOf, ownRoom}
+use Rattle.dimacs.specs.Names.{kindOf, ownRoom}
 use Rattle.dimacs.specs.Header.{openingOf, unlimited, limitsOf}
 use Rattle.dimacs.specs.Clauses as def
 use Rattle.dimacs.specs.Texts as texts
 use Rattle.dimacs.specs.declared.Format.{Format}
+use Rattle.dimacs.specs.declared.Kind.{Kind}
+use Rattle.dimacs.specs.declared.Kind.the-variants.{Unknown, Clauses, Log}
 use Rattle.dimacs.specs.declared.Mode.{Mode}
 use Rattle.dimacs.specs.declared.Limits.{Limits}
+use Rattle.dimacs.specs.declared.Progress.{Progress}
 use Rattle.dimacs.specs.declared.Opening.{Opening}
 use Rattle.dimacs.specs.declared.Opening.the-variants as how
 use Rattle.dimacs.proofs.Loops.{andOn}
@@ -23,26 +26,27 @@ use Rattle.dimacs.proofs.Texts.{answers-step}
 use Rattle.clause.specs.Answers.{nextOf}
 use Rattle.clause.specs.declared.Next.{Next}
 use Rattle.clause.specs.declared.Next.the-variants as next
-use Rattle.formula.specs.Cursors.{cursorOf, openedBy, openedAs, settledBy, stepOf}
+use Rattle.formula.specs.Cursors.{cursorOf, openedBy, openedAs, cursorAfter, stepOf}
 use Rattle.formula.specs.declared.Cursor.{Cursor}
-use Rattle.formula.proofs.Runs.{Leads, leads}
+use Rattle.formula.proofs.Runs.{CallLeads, call-leads}
 use Rattle.rota.specs.Rota.{Entry, bad, good, Served, serves}
 use Rattle.rota.proofs.Tickets.{Lawful}
 use Rattle.rota.proofs.Alone.{Whole, last, whole-more}
 use Rattle.service.specs.declared.Stage.{Stage}
 use Rattle.service.specs.declared.Stage.the-variants as stage
-use Rattle.tray.specs.declared.Job.{Job}
+use Rattle.ring.specs.declared.Job.{Job}
+use Rattle.ring.specs.Ring.{jobOf, goesOn}
 use Rattle.service.specs.declared.Goes.{Goes}
 use Rattle.service.specs.declared.Goes.the-variants.{On, Over}
 use Rattle.service.specs.Serving.{within, Reply, opening, answering, openingGoes, nextGoes, serving, servedPart}
-use Rattle.tray.specs.Ring.{Put, namedBy, jobOf, serve, goesOn}
+use Rattle.tray.specs.Calls.{Put, serve}
 use Rattle.fairness.specs.Promises.{Lent, Holds, saidAlone}
 use Rattle.fairness.proofs.Desk.{entryBy, goesBy, servedBy, desk}
 
 -- The turns that a job of n bytes may need after its next one.
 abbrev pub leftBy : ℕ → Stage → ℕ
 leftBy n (stage.Fresh f m) = 1 + (n + 1) / 2
-leftBy n (stage.Reading c) = (n + 1 - c .place) / 2
+leftBy n (stage.Reading c) = (n + 1 - c .progress .place) / 2
 
 abbrev pub leftOf : Job → ℕ
 leftOf j = leftBy (j .length) (j .stage)
@@ -56,10 +60,10 @@ never h = let z : _≡_ {A = ℕ} 0 1 = cc in absurd (omega arith)
 serving-falls : (s : List ℕ) (x : Stage) (c : Cursor) → serving s ownRoom x .goes ≡ On c → leftBy (length s) (stage.Reading c) < leftBy (length s) x
 unfolding serving openedAs
 serving-falls s (stage.Fresh f m) c h = omega arith
-serving-falls s (stage.Reading x) c h = go (stepOf s ownRoom x .cursor) (stepOf s ownRoom x .answer) (leads s ownRoom x) h
+serving-falls s (stage.Reading x) c h = go (stepOf s ownRoom x .cursor) (stepOf s ownRoom x .answer) (call-leads s ownRoom x) h
   where
-    go : (y : Cursor) (a : Next) → Leads s ownRoom x y a → nextGoes y a ≡ On c → toCome s (c .place) < toCome s (x .place)
-    go y (next.Clause extra n) l g = let e : y ≡ c = cc in subst (λ z. toCome s (z .place) < toCome s (x .place)) e (l .1)
+    go : (y : Cursor) (a : Next) → CallLeads s ownRoom x y a → nextGoes y a ≡ On c → toCome s (c .progress .place) < toCome s (x .progress .place)
+    go y (next.Clause extra n) l g = let e : y ≡ c = cc in subst (λ z. toCome s (z .progress .place) < toCome s (x .progress .place)) e (l .1)
     go y next.Ended l g = over g
     go y (next.Refused r n) l g = over g
 
@@ -104,25 +108,24 @@ lasts p j e j′ o h = subst (PartOf p) (sym (serve-goes j e j′ h .is)) o
 pub record Begins (p : Put) (make : ℕ → Job) : Type 0 where
   pub format : Format
   pub mode : Mode
-  pub format-known : formatOf (p .format) ≡ some format
-  pub mode-known : modeOf (p .mode) ≡ some mode
+  pub kind-known : kindOf (p .format) (p .mode) ≡ Clauses format mode
   pub is : make ≡ (λ k. jobOf k (p .start) (p .length) (stage.Fresh format mode))
 
 pub entry-begins : (p : Put) (make : ℕ → Job) → desk .entry p ≡ good make → Begins p make
-entry-begins p make h = go (formatOf (p .format)) (modeOf (p .mode)) refl refl h
+entry-begins p make h = go (kindOf (p .format) (p .mode)) refl h
   where
     not-good : {X : Type 0} (n : ℕ) → _≡_ {A = Entry Job} (bad n) (good make) → X
     not-good n e = let z : _≡_ {A = ℕ} 0 1 = cc in absurd (omega arith)
 
-    go : (x : Option Format) (y : Option Mode) → formatOf (p .format) ≡ x → modeOf (p .mode) ≡ y → entryBy p (namedBy x y) ≡ good make → Begins p make
-    go none y q r g = not-good _ g
-    go (some f) none q r g = not-good _ g
-    go (some f) (some m) q r g =
+    go : (x : Kind) → kindOf (p .format) (p .mode) ≡ x → entryBy p x ≡ good make → Begins p make
+    go Unknown q g = not-good _ g
+    go (Log m) q g = not-good _ g
+    go (Clauses f m) q g =
         tested (within (p .start) (p .length) (p .lent))
         (λ w.
         let e : good (λ k. jobOf k (p .start) (p .length) (stage.Fresh f m)) ≡ good make = rw w at g in
         let i : (λ k. jobOf k (p .start) (p .length) (stage.Fresh f m)) ≡ make = cc in
-        record { format = f; mode = m; format-known = q; mode-known = r; is = sym i })
+        record { format = f; mode = m; kind-known = q; is = sym i })
         (λ w. not-good _ (rw w at g))
 
 pub lawful : Lawful desk
@@ -146,11 +149,11 @@ module _ (bytes : List ℕ) where
 
 module _ (bytes : List ℕ) (k start size : ℕ) (f : Format) where
   -- The job between two turns.
-  abbrev between : Limits → texts.Cursor → Job
+  abbrev between : Limits → Progress → Job
   between limits c = jobOf k start size (stage.Reading (cursorOf f limits c))
 
   -- What it is told from a cursor on.
-  whole-from : (limits : Limits) (n : ℕ) (c : texts.Cursor) → toCome bytes (c .place) < n
+  whole-from : (limits : Limits) (n : ℕ) (c : Progress) → toCome bytes (c .place) < n
       → Whole (solo bytes) (between limits c) (map answering (texts.answersFrom bytes f limits ownRoom c))
   unfolding serving texts.turn
   whole-from limits zero c h = absurd (omega arith)
@@ -158,14 +161,14 @@ module _ (bytes : List ℕ) (k start size : ℕ) (f : Format) where
       let d = texts.answerAt bytes f limits ownRoom c in
       let x = cursorOf f limits c in
       rw (answers-step bytes f limits ownRoom c)
-      (told (d .place) (d .answer) refl (leads bytes ownRoom x) (λ y l. whole-from limits n y l))
+      (told (d .place) (d .answer) refl (call-leads bytes ownRoom x) (λ y l. whole-from limits n y l))
     where
       told : (e : ℕ) (a : def.Answer)
-          → solo bytes (between limits c) ≡ serves (answering a) (goesBy (between limits c) (nextGoes (settledBy (cursorOf f limits c) e (nextOf a)) (nextOf a)))
-          → Leads bytes ownRoom (cursorOf f limits c) (settledBy (cursorOf f limits c) e (nextOf a)) (nextOf a)
-          → ((y : texts.Cursor) → toCome bytes (y .place) < n → Whole (solo bytes) (between limits y) (map answering (texts.answersFrom bytes f limits ownRoom y)))
-          → Whole (solo bytes) (between limits c) (map answering (andOn (texts.turnBy (texts.settledBy c e a) a) (texts.answersFrom bytes f limits ownRoom)))
-      told e (def.clause extra so) q l ih = whole-more (solo bytes) q (ih (texts.settledBy c e (def.clause extra so)) (omega (arith, l .1)))
+          → solo bytes (between limits c) ≡ serves (answering a) (goesBy (between limits c) (nextGoes (cursorAfter (cursorOf f limits c) e (nextOf a)) (nextOf a)))
+          → CallLeads bytes ownRoom (cursorOf f limits c) (cursorAfter (cursorOf f limits c) e (nextOf a)) (nextOf a)
+          → ((y : Progress) → toCome bytes (y .place) < n → Whole (solo bytes) (between limits y) (map answering (texts.answersFrom bytes f limits ownRoom y)))
+          → Whole (solo bytes) (between limits c) (map answering (andOn (texts.turnBy (texts.settledBy (c .count) e (texts.finalOf a)) a) (texts.answersFrom bytes f limits ownRoom)))
+      told e (def.clause extra so) q l ih = whole-more (solo bytes) q (ih (texts.settledBy (c .count) e (texts.finalOf (def.clause extra so))) (omega (arith, l .1)))
       told e def.ended q l ih = last q
       told e (def.refused r so) q l ih = last q
 

@@ -7,8 +7,8 @@ use native.Mathlib.Numerals.{add-one}
 use lib.ListN.{length, getD, set, length-set}
 use lib.Seq.{getD-set-same, getD-set-other}
 use Rattle.dimacs.specs.Names.{places}
-use Rattle.tray.specs.declared.Job.{Job}
-use Rattle.tray.specs.Ring.{ring, noJob, movedUp}
+use Rattle.ring.specs.declared.Job.{Job}
+use Rattle.ring.specs.Ring.{ring, noJob, movedUp}
 
 pub length-ring : (js : List Job) (h n : ℕ) → length (ring js h n) ≡ n
 length-ring js h zero = refl

@@ -2,24 +2,25 @@
 use Prim.Native.Nat.{ℕ, _+_, _*_, _/_, _≤_}
 use mathlib.Core.Bool.{true, false}
 use mathlib.Core.List.{List, [], _∷_, map}
-use mathlib.Core.Option.{some}
 use mathlib.Core.Path.{_≡_}
 use lib.ListN.{length}
 use lib.IntN.{ℤ}
-use Rattle.dimacs.specs.Names.{formatOf, modeOf, places}
+use Rattle.dimacs.specs.Names.{kindOf, places}
 use Rattle.dimacs.specs.declared.Format.{Format}
+use Rattle.dimacs.specs.declared.Kind.the-variants.{Clauses}
 use Rattle.dimacs.specs.declared.Mode.{Mode}
 use Rattle.rota.specs.Rota as rota
 use Rattle.rota.specs.Rota.{Call, Answer, tickets, verdicts, withdrawals, isWithdrawn, turns, heard, toTheLast, concluded, AtOwnTurns, Hears}
-use Rattle.tray.specs.declared.Tray.{Tray}
+use Rattle.ring.specs.declared.Tray.{Tray}
+use Rattle.ring.specs.Ring.{emptyTray, waiting}
 use Rattle.tray.specs.declared.PutAnswer.{PutAnswer}
 use Rattle.tray.specs.declared.PutAnswer.the-variants as putting
 use Rattle.tray.specs.declared.TurnAnswer.{TurnAnswer}
 use Rattle.tray.specs.declared.WithdrawAnswer.{WithdrawAnswer}
 use Rattle.service.specs.Serving.{Reply}
-use Rattle.tray.specs.Ring.{emptyTray, waiting, Put}
+use Rattle.tray.specs.Calls.{Put}
 use Rattle.tray.specs.Answers.{putSays, turnSays, withdrawSays}
-use Rattle.lent_tray.specs.Lent.{Puts, Turns, Withdraws}
+use Rattle.lent_tray.specs.Lent.{LentPut, LentTurn, LentWithdrawal}
 use Rattle.fairness.specs.Promises.{Lent, Calls, Holds, saidAlone}
 
 -- A call as it went: what it named or was lent, its answer, and the tray that it left; after a turn also what the buffer then held.
@@ -48,14 +49,14 @@ leftIn (withdraw k a u) = u
 
 -- It kept the contract of `put`, `turn` or `withdraw` on a lent tray.
 abbrev pub Keeps : Tray → Event → Type 0
-Keeps t (put p a u) = Puts t p u a
-Keeps t (turn e a new u) = Turns t (e .area) (e .buffer) new u a
-Keeps t (withdraw k a u) = Withdraws t k u a
+Keeps t (put p a u) = LentPut t p u a
+Keeps t (turn e a new u) = LentTurn t (e .area) (e .buffer) new u a
+Keeps t (withdraw k a u) = LentWithdrawal t k u a
 
--- So did each, on the tray that the last one left.
-abbrev pub Kept : Tray → List Event → Type 0
-Kept t [] = Unit {0}
-Kept t (e ∷ es) = Keeps t e × Kept (leftIn e) es
+-- So did each of some calls, on the tray that the last one left.
+abbrev pub AllKeep : Tray → List Event → Type 0
+AllKeep t [] = Unit {0}
+AllKeep t (e ∷ es) = Keeps t e × AllKeep (leftIn e) es
 
 -- The tray at last.
 abbrev pub finally : Tray → List Event → Tray
@@ -73,15 +74,15 @@ called es = map callIn es
 -- The account: tickets given equal verdicts answered plus withdrawals accepted plus jobs waiting.
 abbrev pub LentAccount : Type 0
 LentAccount =
-    (es : List Event) → Kept emptyTray es
+    (es : List Event) → AllKeep emptyTray es
     → length (tickets (said es)) ≡ verdicts (said es) + withdrawals (said es) + length (waiting (finally emptyTray es))
 
 -- Some calls, a put that was given a ticket, and the calls after it.
 pub record Went (before : List Event) (p : Put) (k : ℕ) (after : List Event) : Type 0 where
   pub tray : Tray
-  pub first : Kept emptyTray before
-  pub given : Puts (finally emptyTray before) p tray (putting.Ticket k)
-  pub since : Kept tray after
+  pub first : AllKeep emptyTray before
+  pub given : LentPut (finally emptyTray before) p tray (putting.Ticket k)
+  pub since : AllKeep tray after
 
 -- The bound: the verdict comes within so many turns, whatever they are lent.
 abbrev pub LentBound : Type 0
@@ -93,7 +94,7 @@ LentBound =
 abbrev pub LentContent : Type 0
 LentContent =
     (before : List Event) (p : Put) (k : ℕ) (after : List Event) (f : Format) (m : Mode) (bytes : List ℕ)
-    → formatOf (p .format) ≡ some f → modeOf (p .mode) ≡ some m
+    → kindOf (p .format) (p .mode) ≡ Clauses f m
     → Went before p k after → isWithdrawn k (said after) ≡ false
     → AtOwnTurns (Holds p bytes) k (called after) (said after)
     → Hears (saidAlone f m bytes) (heard k (said after))
@@ -102,7 +103,7 @@ LentContent =
 abbrev pub LentDemand : Type 0
 LentDemand =
     (before : List Event) (p : Put) (k : ℕ) (after : List Event) (f : Format) (m : Mode) (bytes : List ℕ)
-    → formatOf (p .format) ≡ some f → modeOf (p .mode) ≡ some m
+    → kindOf (p .format) (p .mode) ≡ Clauses f m
     → Went before p k after → isWithdrawn k (said after) ≡ false
     → AtOwnTurns (Holds p bytes) k (called after) (said after)
     → places * (2 + (p .length + 1) / 2) ≤ turns (said after)

@@ -2,18 +2,19 @@
 use Prim.Native.Nat.{ℕ, _+_, _*_, _/_, _≤_}
 use mathlib.Core.Bool.{true, false}
 use mathlib.Core.List.{List, [], _∷_, map}
-use mathlib.Core.Option.{some}
 use mathlib.Core.Path.{_≡_}
 use lib.ListN.{length, take, drop}
 use lib.IntN.{ℤ}
-use Rattle.dimacs.specs.Names.{formatOf, modeOf, ownRoom, places}
+use Rattle.dimacs.specs.Names.{kindOf, ownRoom, places}
 use Rattle.dimacs.specs.Texts.{text}
 use Rattle.dimacs.specs.declared.Format.{Format}
+use Rattle.dimacs.specs.declared.Kind.the-variants.{Clauses}
 use Rattle.dimacs.specs.declared.Mode.{Mode}
 use Rattle.rota.specs.Rota.{Call, put, turn, withdraw, Answer, refused, ticketed, ticketIn, Done, does, answers, finally, tickets, upward, verdicts, withdrawals, isWithdrawn, turns, heard, toTheLast, concluded, AtOwnTurns, Hears}
-use Rattle.tray.specs.declared.Tray.{Tray}
+use Rattle.ring.specs.declared.Tray.{Tray}
+use Rattle.ring.specs.Ring.{emptyTray, waiting}
 use Rattle.service.specs.Serving.{Reply, opening, answering}
-use Rattle.tray.specs.Ring.{emptyTray, waiting, Put, putOf, turnOf, bufferOf, withdrawOf}
+use Rattle.tray.specs.Calls.{Put, putOf, turnOf, bufferOf, withdrawOf}
 use Rattle.tray.specs.Answers.{putSays, turnSays, withdrawSays}
 
 -- What a turn is lent.
@@ -60,8 +61,8 @@ abbrev pub Tickets : Type 0
 Tickets = (calls : Calls) → let xs = answered calls in tickets xs ≡ upward 1 (length (tickets xs))
 
 -- Never more jobs wait than there are places.
-abbrev pub Few : Type 0
-Few = (calls : Calls) → length (waiting (left calls)) ≤ places
+abbrev pub EnoughPlaces : Type 0
+EnoughPlaces = (calls : Calls) → length (waiting (left calls)) ≤ places
 
 module _ (before : Calls) (p : Put) where
   -- A put after some calls.
@@ -93,7 +94,7 @@ saidAlone f m bytes = let t = text f m ownRoom bytes in opening (t .opened) ∷ 
 abbrev pub Content : Type 0
 Content =
     (before : Calls) (p : Put) (after : Calls) (k : ℕ) (f : Format) (m : Mode) (bytes : List ℕ)
-    → formatOf (p .format) ≡ some f → modeOf (p .mode) ≡ some m
+    → kindOf (p .format) (p .mode) ≡ Clauses f m
     → thenPut before p .answer ≡ ticketed k → isWithdrawn k (since before p after) ≡ false
     → AtOwnTurns (Holds p bytes) k after (since before p after)
     → Hears (saidAlone f m bytes) (heard k (since before p after))
@@ -102,7 +103,7 @@ Content =
 abbrev pub Demand : Type 0
 Demand =
     (before : Calls) (p : Put) (after : Calls) (k : ℕ) (f : Format) (m : Mode) (bytes : List ℕ)
-    → formatOf (p .format) ≡ some f → modeOf (p .mode) ≡ some m
+    → kindOf (p .format) (p .mode) ≡ Clauses f m
     → thenPut before p .answer ≡ ticketed k → isWithdrawn k (since before p after) ≡ false
     → AtOwnTurns (Holds p bytes) k after (since before p after)
     → places * (2 + (p .length + 1) / 2) ≤ turns (since before p after)

@@ -4,24 +4,24 @@ use mathlib.Core.List.{List}
 use mathlib.Core.Path.{_≡_}
 use lib.ListN.{length}
 use lib.IntN.{ℤ}
-use Rattle.tray.specs.declared.Tray.{Tray}
+use Rattle.ring.specs.declared.Tray.{Tray}
 use Rattle.tray.specs.declared.PutAnswer.{PutAnswer}
 use Rattle.tray.specs.declared.TurnAnswer.{TurnAnswer}
 use Rattle.tray.specs.declared.WithdrawAnswer.{WithdrawAnswer}
-use Rattle.tray.specs.Ring.{Put, putOf, turnOf, bufferOf, withdrawOf}
+use Rattle.tray.specs.Calls.{Put, putOf, turnOf, bufferOf, withdrawOf}
 
 -- A put's whole promise.
-pub record Puts (t : Tray) (p : Put) (after : Tray) (a : PutAnswer) : Type 0 where
+pub record LentPut (t : Tray) (p : Put) (after : Tray) (a : PutAnswer) : Type 0 where
   pub answer : a ≡ putOf t p .answer
   pub tray : after ≡ putOf t p .tray
 
 -- A turn's whole promise, with what the lent buffer held and then holds.
-pub record Turns (t : Tray) (area : List ℕ) (old new : List ℤ) (after : Tray) (a : TurnAnswer) : Type 0 where
+pub record LentTurn (t : Tray) (area : List ℕ) (old new : List ℤ) (after : Tray) (a : TurnAnswer) : Type 0 where
   pub answer : a ≡ turnOf t area (length old) .answer
   pub tray : after ≡ turnOf t area (length old) .tray
   pub buffer : new ≡ bufferOf t area old
 
 -- A withdrawal's whole promise.
-pub record Withdraws (t : Tray) (k : ℕ) (after : Tray) (a : WithdrawAnswer) : Type 0 where
+pub record LentWithdrawal (t : Tray) (k : ℕ) (after : Tray) (a : WithdrawAnswer) : Type 0 where
   pub answer : a ≡ withdrawOf t k .answer
   pub tray : after ≡ withdrawOf t k .tray

@@ -73,7 +73,7 @@ module _ {J P E A : Type 0} (D : Desk J P E A) (L : Lawful D) (left : J → ℕ)
         | moves e j′ q i g st′ a ↦
             let same = L .kept j e j′ g in
             let near = stands-below j′ st′ in
-            let few = s′ .few in
+            let enough = s′ .places-enough in
             let one : turns (d .answer ∷ xs) ≡ suc (turns xs) = ap (λ x. turns (x ∷ xs)) a in
             let less : D .places * left j′ + D .places ≤ D .places * left j =
             subst (λ n. n ≤ D .places * left j) (mul-suc (D .places) (left j′)) (mul-le-mul-left (D .places) (falls j e j′ g)) in
@@ -83,19 +83,19 @@ module _ {J P E A : Type 0} (D : Desk J P E A) (L : Lawful D) (left : J → ℕ)
       ]
 
 -- A put that is given a ticket stands last.
-pub record Entered {J P E A : Type 0} (D : Desk J P E A) (p : P) (k : ℕ) (t : Round J) : Type 0 where
+pub record StandsLast {J P E A : Type 0} (D : Desk J P E A) (p : P) (k : ℕ) (t : Round J) : Type 0 where
   pub job : J
   pub made : (make : ℕ → J) × (D .entry p ≡ good make) × (job ≡ make k)
-  pub ahead : ℕ
-  pub few : ahead < D .places
-  pub stands : Stands job ahead (t .waiting)
+  pub ahead-of : ℕ
+  pub below : ahead-of < D .places
+  pub stands : Stands job ahead-of (t .waiting)
 
 module _ {J P E A : Type 0} (D : Desk J P E A) where
-  entered-after : {t : Round J} {d : Done (Round J) A} (p : P) (k : ℕ) → Does D t (put p) d → d .answer ≡ ticketed k → Entered D p k (d .after)
-  entered-after p k (nothing n) h = let z : _≡_ {A = ℕ} 0 1 = cc in absurd (omega arith)
-  entered-after p k (enters {js = js} {n = n} make e l) h =
+  last-after : {t : Round J} {d : Done (Round J) A} (p : P) (k : ℕ) → Does D t (put p) d → d .answer ≡ ticketed k → StandsLast D p k (d .after)
+  last-after p k (nothing n) h = let z : _≡_ {A = ℕ} 0 1 = cc in absurd (omega arith)
+  last-after p k (enters {js = js} {n = n} make e l) h =
       let same : n + 1 ≡ k = cc in
-      record { job = make (n + 1); made = (make, e, ap make same); ahead = length js; few = l; stands = stands-last (make (n + 1)) js }
+      record { job = make (n + 1); made = (make, e, ap make same); ahead-of = length js; below = l; stands = stands-last (make (n + 1)) js }
 
-  pub entered : (t : Round J) (p : P) (k : ℕ) → call D t (put p) .answer ≡ ticketed k → Entered D p k (call D t (put p) .after)
-  entered t p k = entered-after p k (call-does D t (put p))
+  pub put-stands : (t : Round J) (p : P) (k : ℕ) → call D t (put p) .answer ≡ ticketed k → StandsLast D p k (call D t (put p) .after)
+  put-stands t p k = last-after p k (call-does D t (put p))

@@ -17,7 +17,7 @@ pub record Lawful {J P E A : Type 0} (D : Desk J P E A) : Type 0 where
 module _ {J P E A : Type 0} (D : Desk J P E A) where
   -- What any calls leave.
   pub record Sound (t : Round J) : Type 0 where
-    pub few : length (t .waiting) ≤ D .places
+    pub places-enough : length (t .waiting) ≤ D .places
     pub distinct : Distinct (D .ticket) (t .waiting)
     pub upto : UpTo (D .ticket) (t .given) (t .waiting)
 
@@ -28,21 +28,21 @@ module _ {J P E A : Type 0} (D : Desk J P E A) (L : Lawful D) where
       let j = make (n + 1) in
       let k = L .made p make e (n + 1) in
       record {
-        few = omega (arith, length-snoc js j);
+        places-enough = omega (arith, length-snoc js j);
         distinct = distinct-snoc (D .ticket) js j (s .distinct) (above-waits (D .ticket) n (D .ticket j) js (s .upto) (omega arith));
         upto = upto-snoc (D .ticket) (n + 1) js j (upto-more (D .ticket) n js (s .upto)) (omega arith);
       }
   sound-after (goes {js = js} {n = n} {e = x} j j′ e) s =
       let k = L .kept j x j′ e in
       record {
-        few = let f = s .few in omega (arith, length-snoc js j′);
+        places-enough = let f = s .places-enough in omega (arith, length-snoc js j′);
         distinct = distinct-snoc (D .ticket) js j′ (s .distinct .1) (rw k (s .distinct .0));
         upto = upto-snoc (D .ticket) n js j′ (s .upto .1) (rw k (s .upto .0));
       }
-  sound-after (ends j e) s = record { few = let f = s .few in omega arith; distinct = s .distinct .1; upto = s .upto .1 }
+  sound-after (ends j e) s = record { places-enough = let f = s .places-enough in omega arith; distinct = s .distinct .1; upto = s .upto .1 }
   sound-after (leaves {js = js} {n = n} {k = k} w) s =
       record {
-        few = let f = s .few in omega (arith, length-without (D .ticket) k js w);
+        places-enough = let f = s .places-enough in omega (arith, length-without (D .ticket) k js w);
         distinct = distinct-without (D .ticket) k js (s .distinct);
         upto = upto-without (D .ticket) n k js (s .upto);
       }
@@ -55,4 +55,4 @@ module _ {J P E A : Type 0} (D : Desk J P E A) (L : Lawful D) where
   sound-from t (c ∷ cs) s = sound-from (call D t c .after) cs (sound-call t c s)
 
   pub sound : (cs : List (Call P E)) → Sound D (finally (call D) fresh cs)
-  sound cs = sound-from fresh cs (record { few = omega arith; distinct = tt; upto = tt })
+  sound cs = sound-from fresh cs (record { places-enough = omega arith; distinct = tt; upto = tt })

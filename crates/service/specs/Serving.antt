@@ -9,6 +9,7 @@ use lib.IntN.{ℤ}
 use Rattle.dimacs.specs.Names.{Reason, callRefusal}
 use Rattle.dimacs.specs.Buffers.{laid}
 use Rattle.dimacs.specs.Clauses.{Answer, refused}
+use Rattle.dimacs.specs.declared.Format.{Format}
 use Rattle.dimacs.specs.declared.Opening.{Opening}
 use Rattle.dimacs.specs.declared.Opening.the-variants as how
 use Rattle.clause.specs.Answers.{nextOf, leftBy}
@@ -25,6 +26,11 @@ use Rattle.service.specs.declared.Said.the-variants as said
 use Rattle.service.specs.declared.Goes.{Goes}
 use Rattle.service.specs.declared.Goes.the-variants.{On, Over}
 use Rattle.service.specs.declared.Served.{Served}
+
+-- The format of a job's text, at any stage.
+abbrev pub formatIn : Stage → Format
+formatIn (stage.Fresh f m) = f
+formatIn (stage.Reading c) = c .format
 
 -- A part stands within an area of some length.
 abbrev pub within : ℕ → ℕ → ℕ → Bool

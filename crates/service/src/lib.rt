@@ -2,7 +2,7 @@
 ghost use mathlib.Core.Path.{_≡_};
 ghost use lib.ListN as list;
 ghost use Rattle.service.specs.Serving as def;
-ghost use Rattle.service.specs.Serving.{openingServed, stepServed, serving, servedPart, Serves};
+ghost use Rattle.service.specs.Serving.{formatIn, openingServed, stepServed, serving, servedPart, Serves};
 use clause::Next;
 use dimacs::Format;
 use dimacs::Mode;
@@ -17,6 +17,16 @@ use formula::Stepped;
 pub enum Stage {
     Fresh(Format, Mode),
     Reading(Cursor),
+}
+
+// The format of a job's text, at any stage.
+pub fn format_of(stage: Stage) -> Format
+    ensures { λ r. ⌜ r ≡ formatIn stage ⌝ }
+{
+    match stage {
+        Stage::Fresh(format, _) => format,
+        Stage::Reading(cursor) => cursor.format,
+    }
 }
 
 // Whether a part stands within an area of some length.

@@ -5,7 +5,7 @@ use mathlib.Core.List.{List}
 use mathlib.Core.Path.{_≡_, ap, sym, _∙_, subst}
 use native.Mathlib.Omega.{arith}
 use borrow.Author.Tests.{ltb-false}
-use lib.Dec.{eqb, ltb}
+use lib.Dec.{ltb}
 use lib.ListN.{length}
 use lib.IntN.{ℤ}
 use Rattle.dimacs.specs.Names.{ownRoom}
@@ -15,16 +15,17 @@ use Rattle.clause.specs.declared.Next.{Next}
 use Rattle.formula.proofs.Runs.{CountFits}
 use Rattle.service.specs.declared.Said.{Said}
 use Rattle.service.specs.declared.Said.the-variants as said
-use Rattle.service.specs.declared.Goes.{Goes}
-use Rattle.service.specs.declared.Goes.the-variants.{On, Over}
-use Rattle.tray.specs.declared.Tray.{Tray}
-use Rattle.tray.specs.declared.Job.{Job}
+use Rattle.ring.specs.declared.Tray.{Tray}
+use Rattle.ring.specs.declared.Job.{Job}
+use Rattle.ring.specs.declared.Front.{Front}
+use Rattle.ring.specs.declared.Front.the-variants as front
+use Rattle.ring.specs.Ring.{waiting, frontOf}
 use Rattle.tray.specs.declared.TurnAnswer.{TurnAnswer}
 use Rattle.tray.specs.declared.TurnAnswer.the-variants as turning
 use Rattle.tray.specs.declared.TurnDone.{TurnDone}
-use Rattle.service.specs.Serving.{Reply, opening, answering, saidOf, literalsIn, servedOf}
+use Rattle.service.specs.Serving.{Reply, opening, answering, saidOf, literalsIn}
 use Rattle.service.proofs.Serving.{part-fits}
-use Rattle.tray.specs.Ring.{serve, front, wentBy, turnOf, Turns}
+use Rattle.tray.specs.Calls.{serve, turnFor, turnOf, Turns}
 
 -- The literals that are said to be read are at most so many.
 abbrev SaidFits : ℕ → Said → Type 0
@@ -46,19 +47,15 @@ served-fits : (area : List ℕ) (j : Job) → length (literalsIn (serve area j .
 unfolding serve
 served-fits area j = part-fits area (j .start) (j .length) ownRoom (j .stage)
 
-went-fits : (t : Tray) (room : ℕ) (a : Said) (g : Goes) → SaidFits room a → ToldFits room (wentBy t a g .answer)
-went-fits t room a (On c) h = h
-went-fits t room a Over h = h
+turn-fits-by : (t : Tray) (area : List ℕ) (room : ℕ) (x : Front) → ToldFits room (turnFor t area room x .answer)
+turn-fits-by t area room front.Nothing = tt
+turn-fits-by t area room (front.Waits j) =
+    chosen (λ (d : TurnDone). ToldFits room (d .answer)) (ltb room ownRoom) (λ f. tt)
+    (λ f. reply-fits room (serve area j .said) (omega (arith, served-fits area j, ltb-false room ownRoom f)))
 
 turn-fits : (t : Tray) (area : List ℕ) (room : ℕ) → ToldFits room (turnOf t area room .answer)
 unfolding turnOf
-turn-fits t area room =
-    chosen Fits (eqb (t .count) 0) (λ e. tt)
-    (λ e. chosen Fits (ltb room ownRoom) (λ f. tt)
-    (λ f. let v = serve area (front t) in went-fits t room (saidOf (v .said)) (v .goes) (reply-fits room (v .said) (omega (arith, served-fits area (front t), ltb-false room ownRoom f)))))
-  where
-    Fits : TurnDone → Type 0
-    Fits d = ToldFits room (d .answer)
+turn-fits t area room = turn-fits-by t area room (frontOf (waiting t))
 
 turns-fit : {t : Tray} {area : List ℕ} {old new : List ℤ} {r : TurnDone} → Turns t area old new r → {a : TurnAnswer} → r .answer ≡ a → ToldFits (length old) a
 turns-fit {t} {area} {old} p g = subst (ToldFits (length old)) (sym (ap (λ x. x .answer) (p .done)) ∙ g) (turn-fits t area (length old))

@@ -1,5 +1,3 @@
--- Laws about the ring, which the proofs here cite.
-pub mod Ring
-pub mod Jobs
-pub mod Finds
+-- Laws about turns, which the proofs here and above cite.
+pub mod Turns
 pub mod Fits

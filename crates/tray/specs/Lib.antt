@@ -1,3 +1,3 @@
--- The tray as a ring of jobs, and what its answers say.
-pub mod Ring
+-- The tray's calls on a record, and what their answers say.
+pub mod Calls
 pub mod Answers

@@ -3,17 +3,16 @@
 // `put` gives a part of a lent area a ticket. Each `turn` serves the job at the front: its first turn opens its text, each later one asks for the
 // next clause. A job leaves with its verdict, the end or a refusal, or by `withdraw`; else it goes to the back.
 ghost use mathlib.Core.Path.{_≡_};
-ghost use mathlib.Core.Option.{some};
-ghost use Prim.Native.Nat.{_≤_, _<_, min};
+ghost use Prim.Native.Nat.{_≤_};
 ghost use lib.ListN as list;
-ghost use Rattle.dimacs.specs.Names.{formatOf, modeOf, places};
-ghost use Rattle.tray.specs.Ring as ring;
-ghost use Rattle.tray.specs.Ring.{emptyTray, namedBy, entered, putOf, went, Turns, ahead, closedUp, withdrawOf};
+ghost use Rattle.dimacs.specs.Names.{ownRoom};
+ghost use Rattle.service.specs.Serving.{Serves};
+ghost use Rattle.tray.specs.Calls as def;
+ghost use Rattle.tray.specs.Calls.{notPut, entered, putOf, notTurned, isOver, turned, Turns, withdrawOf};
 use dimacs::BUFFER_TOO_SHORT;
 use dimacs::FORMAT_OR_MODE_UNKNOWN;
-use dimacs::Format;
+use dimacs::Kind;
 use dimacs::LARGEST;
-use dimacs::Mode;
 use dimacs::NOTHING_WAITS;
 use dimacs::PART_OUTSIDE_AREA;
 use dimacs::PLACES;
@@ -21,45 +20,18 @@ use dimacs::ROOM;
 use dimacs::TICKET_NOT_WAITING;
 use dimacs::TICKETS_USED_UP;
 use dimacs::TRAY_FULL;
-use formula::Cursor;
 use service::Goes;
 use service::Said;
 use service::Served;
 use service::Stage;
 
-// A job: its ticket, the part of the area that is its text, and how far that is read.
-pub struct Job {
-    pub ticket: u64,
-    pub start: usize,
-    pub length: usize,
-    pub stage: Stage,
-}
-
-// The places, the one where the round begins, how many jobs wait from there on, and how many tickets were given.
-pub struct Tray {
-    pub jobs: [Job; PLACES],
-    pub head: usize,
-    pub count: usize,
-    pub given: u64,
-}
-
-// A fresh tray.
-pub fn empty() -> Tray
-    ensures { λ r. ⌜ r ≡ emptyTray ⌝ }
-{
-    let job = Job {
-        ticket: 0,
-        start: 0,
-        length: 0,
-        stage: Stage::Fresh(Format::Plain, Mode::Strict),
-    };
-    Tray {
-        jobs: [job; PLACES],
-        head: 0,
-        count: 0,
-        given: 0,
-    }
-}
+// What a caller needs of the ring has its name here too.
+pub use ring::Front;
+pub use ring::Job;
+pub use ring::Tray;
+pub use ring::empty;
+pub use ring::front_job;
+pub use ring::how_many;
 
 // What a put answers: a refusal's number, or the new ticket.
 pub enum PutAnswer {
@@ -73,30 +45,13 @@ pub struct PutDone {
     pub answer: PutAnswer,
 }
 
-// What the numbers of a format and a mode name: nothing that the tray takes, or the stage in which a job begins.
-pub enum Named {
-    Unknown,
-    Begins(Stage),
-}
-
-fn stage_of_mode(format: Format, mode: u8) -> Named
-    ensures { λ r. ⌜ r ≡ namedBy (some format) (modeOf mode) ⌝ }
+// A refused put changes nothing.
+fn not_put(tray: Tray, number: u8) -> PutDone
+    ensures { λ r. ⌜ r ≡ notPut tray number ⌝ }
 {
-    match mode {
-        0 => Named::Begins(Stage::Fresh(format, Mode::Strict)),
-        1 => Named::Begins(Stage::Fresh(format, Mode::Lenient)),
-        _ => Named::Unknown,
-    }
-}
-
-fn stage_of(format: u8, mode: u8) -> Named
-    ensures { λ r. ⌜ r ≡ namedBy (formatOf format) (modeOf mode) ⌝ }
-{
-    match format {
-        0 => stage_of_mode(Format::Plain, mode),
-        1 => stage_of_mode(Format::Weighted, mode),
-        2 => stage_of_mode(Format::Grouped, mode),
-        _ => Named::Unknown,
+    PutDone {
+        tray,
+        answer: PutAnswer::Refused(number),
     }
 }
 
@@ -104,32 +59,23 @@ fn stage_of(format: u8, mode: u8) -> Named
 fn enter(mut tray: Tray, start: usize, length: usize, stage: Stage) -> PutDone
     ensures { λ r. ⌜ r ≡ entered tray start length stage ⌝ }
 {
-    let count = tray.count;
     let given = tray.given;
-    if PLACES <= count {
-        return PutDone {
-            tray,
-            answer: PutAnswer::Refused(TRAY_FULL),
-        };
+    if PLACES <= tray.count {
+        return not_put(tray, TRAY_FULL);
     }
     if LARGEST <= given {
-        return PutDone {
-            tray,
-            answer: PutAnswer::Refused(TICKETS_USED_UP),
-        };
+        return not_put(tray, TICKETS_USED_UP);
     }
-    let place = (tray.head % PLACES + count) % PLACES;
     let ticket = given + 1;
-    tray.jobs[place] = Job {
+    tray.given = ticket;
+    let job = Job {
         ticket,
         start,
         length,
         stage,
     };
-    tray.count = count + 1;
-    tray.given = ticket;
     PutDone {
-        tray,
+        tray: ring::join(tray, job),
         answer: PutAnswer::Ticket(ticket),
     }
 }
@@ -138,20 +84,15 @@ fn enter(mut tray: Tray, start: usize, length: usize, stage: Stage) -> PutDone
 pub fn put(tray: Tray, format: u8, mode: u8, start: usize, length: usize, area: &[u8]) -> PutDone
     ensures { λ r. ⌜ r ≡ putOf tray (record { format = format; mode = mode; start = start; length = length; lent = list.length (now (area .entry)) }) ⌝ }
 {
-    match stage_of(format, mode) {
-        Named::Unknown => PutDone {
-            tray,
-            answer: PutAnswer::Refused(FORMAT_OR_MODE_UNKNOWN),
-        },
-        Named::Begins(stage) => {
+    match dimacs::kind_of(format, mode) {
+        Kind::Clauses(known, strict) => {
             if service::within(start, length, area.len()) {
-                return enter(tray, start, length, stage);
+                return enter(tray, start, length, Stage::Fresh(known, strict));
             }
-            PutDone {
-                tray,
-                answer: PutAnswer::Refused(PART_OUTSIDE_AREA),
-            }
+            not_put(tray, PART_OUTSIDE_AREA)
         }
+        Kind::Log(_) => not_put(tray, FORMAT_OR_MODE_UNKNOWN),
+        Kind::Unknown => not_put(tray, FORMAT_OR_MODE_UNKNOWN),
     }
 }
 
@@ -167,58 +108,48 @@ pub struct TurnDone {
     pub answer: TurnAnswer,
 }
 
-// How many jobs wait, as far as there are places.
-fn held(count: usize) -> usize
-    ensures { λ r. ⌜ r ≡ min count places ⌝ }
+// A refused turn changes nothing.
+fn not_turned(tray: Tray, number: u8) -> TurnDone
+    ensures { λ r. ⌜ r ≡ notTurned tray number ⌝ }
 {
-    if count < PLACES {
-        return count;
+    TurnDone {
+        tray,
+        answer: TurnAnswer::Refused(number),
     }
-    PLACES
 }
 
-// The front job goes to the back, or leaves.
-fn pass(mut tray: Tray, served: Served) -> TurnDone
-    requires { ⌜ 0 < tray .count ⌝ }
-    ensures { λ r. ⌜ r ≡ went tray served ⌝ }
+// A job is served with the first places of the buffer.
+fn serve(job: Job, area: &[u8], lits: &mut [i32]) -> Served
+    requires { ⌜ ownRoom ≤ list.length (now lits) ⌝ }
+    ensures { λ r. ⌜ Serves (def.serve (now (area .entry)) job) (now (lits .entry)) (now (lits .exit)) r ⌝ }
 {
-    let head = tray.head % PLACES;
-    let waiting = held(tray.count);
-    let job = tray.jobs[head];
-    let ticket = job.ticket;
+    let stage = job.stage;
+    service::serve(stage, job.start, job.length, area, &mut lits[..ROOM])
+}
+
+// Whether that is the job's verdict.
+fn is_over(goes: Goes) -> bool
+    ensures { λ r. ⌜ r ≡ isOver goes ⌝ }
+{
+    match goes {
+        Goes::On(_) => false,
+        Goes::Over => true,
+    }
+}
+
+// The front job, served.
+fn tell(tray: Tray, job: Job, served: Served) -> TurnDone
+    ensures { λ r. ⌜ r ≡ turned tray job served ⌝ }
+{
     let said = served.said;
     let goes = served.goes;
-    tray.head = (head + 1) % PLACES;
-    match goes {
-        Goes::On(cursor) => {
-            let back = (head + waiting) % PLACES;
-            tray.jobs[back] = Job {
-                ticket,
-                start: job.start,
-                length: job.length,
-                stage: Stage::Reading(cursor),
-            };
-            tray.count = waiting;
-            TurnDone {
-                tray,
-                answer: TurnAnswer::Told {
-                    ticket,
-                    said,
-                    last: false,
-                },
-            }
-        }
-        Goes::Over => {
-            tray.count = waiting - 1;
-            TurnDone {
-                tray,
-                answer: TurnAnswer::Told {
-                    ticket,
-                    said,
-                    last: true,
-                },
-            }
-        }
+    TurnDone {
+        tray: ring::pass(tray, job, goes),
+        answer: TurnAnswer::Told {
+            ticket: job.ticket,
+            said,
+            last: is_over(goes),
+        },
     }
 }
 
@@ -226,23 +157,15 @@ fn pass(mut tray: Tray, served: Served) -> TurnDone
 pub fn turn(tray: Tray, area: &[u8], lits: &mut [i32]) -> TurnDone
     ensures { λ r. ⌜ Turns tray (now (area .entry)) (now (lits .entry)) (now (lits .exit)) r ⌝ }
 {
-    if tray.count == 0 {
-        return TurnDone {
-            tray,
-            answer: TurnAnswer::Refused(NOTHING_WAITS),
-        };
+    match front_job(tray) {
+        Front::Nothing => not_turned(tray, NOTHING_WAITS),
+        Front::Waits(job) => {
+            if lits.len() < ROOM {
+                return not_turned(tray, BUFFER_TOO_SHORT);
+            }
+            tell(tray, job, serve(job, area, lits))
+        }
     }
-    if lits.len() < ROOM {
-        return TurnDone {
-            tray,
-            answer: TurnAnswer::Refused(BUFFER_TOO_SHORT),
-        };
-    }
-    let front = tray.head % PLACES;
-    let job = tray.jobs[front];
-    let stage = job.stage;
-    let served = service::serve(stage, job.start, job.length, area, &mut lits[..ROOM]);
-    pass(tray, served)
 }
 
 // What a withdrawal answers: a refusal's number, or the ticket that is withdrawn.
@@ -257,56 +180,20 @@ pub struct WithdrawDone {
     pub answer: WithdrawAnswer,
 }
 
-// How many of the first `count` jobs stand before the one with the ticket, or `count`.
-fn find(tray: Tray, count: usize, ticket: u64) -> usize
-    requires { ⌜ count ≤ places ⌝ }
-    ensures { λ r. ⌜ r ≡ ahead ticket (ring.ring (tray .jobs) (tray .head) count) ⌝ }
-{
-    let head = tray.head % PLACES;
-    let mut i = 0;
-    while i < count {
-        let place = (head + i) % PLACES;
-        let job = tray.jobs[place];
-        if job.ticket == ticket {
-            return i;
-        }
-        i += 1;
-    }
-    i
-}
-
-// The tray without the job that has `from` others ahead of it: those behind it move up.
-fn close_up(mut tray: Tray, count: usize, from: usize) -> Tray
-    requires { ⌜ (from < count) × (count ≤ places) ⌝ }
-    ensures { λ r. ⌜ r ≡ closedUp tray count from ⌝ }
-{
-    let head = tray.head % PLACES;
-    let mut i = from;
-    while i + 1 < count {
-        let place = (head + i) % PLACES;
-        let next = (head + i + 1) % PLACES;
-        let job = tray.jobs[next];
-        tray.jobs[place] = job;
-        i += 1;
-    }
-    tray.count = count - 1;
-    tray
-}
-
 // The job with the ticket leaves; the others keep their order.
 pub fn withdraw(tray: Tray, ticket: u64) -> WithdrawDone
     ensures { λ r. ⌜ r ≡ withdrawOf tray ticket ⌝ }
 {
-    let count = held(tray.count);
-    let i = find(tray, count, ticket);
-    if i < count {
+    let out = ring::take_out(tray, ticket);
+    let left = out.tray;
+    if out.found {
         return WithdrawDone {
-            tray: close_up(tray, count, i),
+            tray: left,
             answer: WithdrawAnswer::Withdrawn(ticket),
         };
     }
     WithdrawDone {
-        tray,
+        tray: left,
         answer: WithdrawAnswer::Refused(TICKET_NOT_WAITING),
     }
 }

@@ -11,10 +11,9 @@ use console::refused_words;
 use console::word;
 use dimacs::Format;
 use dimacs::LARGEST;
-use dimacs::PLACES;
 use libc::STDIN_FILENO;
 use service::Said;
-use service::Stage;
+use tray::Front;
 use tray::PutAnswer;
 use tray::Tray;
 use tray::TurnAnswer;
@@ -26,14 +25,14 @@ fn call_refused(n: u8) {
     number(n as u64);
 }
 
-// The format of the job at the front.
+// The format of the job at the front. Where none is, the turn is refused and any format does.
 fn front_format(tray: Tray) -> Format {
-    let front = tray.head % PLACES;
-    let job = tray.jobs[front];
-    let stage = job.stage;
-    match stage {
-        Stage::Fresh(format, _) => format,
-        Stage::Reading(cursor) => cursor.format,
+    match tray::front_job(tray) {
+        Front::Nothing => Format::Plain,
+        Front::Waits(job) => {
+            let stage = job.stage;
+            service::format_of(stage)
+        }
     }
 }
 

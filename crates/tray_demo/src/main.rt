@@ -15,7 +15,7 @@ use dimacs::Format;
 use dimacs::PLACES;
 use dimacs::ROOM;
 use service::Said;
-use service::Stage;
+use tray::Front;
 use tray::Job;
 use tray::PutAnswer;
 use tray::PutDone;
@@ -159,17 +159,17 @@ fn feed(mut day: Day, area: &mut [u8], turns: u64) -> Day {
     }
 }
 
+// The job at the front. Where none is, the turn is refused and any job does.
 fn front(tray: Tray) -> Job {
-    let at = tray.head % PLACES;
-    tray.jobs[at]
+    match tray::front_job(tray) {
+        Front::Nothing => tray.jobs[0],
+        Front::Waits(job) => job,
+    }
 }
 
 fn format_of(job: Job) -> Format {
     let stage = job.stage;
-    match stage {
-        Stage::Fresh(format, _) => format,
-        Stage::Reading(cursor) => cursor.format,
-    }
+    service::format_of(stage)
 }
 
 // What the turn of this number tells.

@@ -9,11 +9,11 @@ use denote.Struct.Laws as LL
 use denote.Enum.Laws as EL
 use Rattle.walks.proofs.Words.{URA, named, Val, vptr, SProp, id⊢, ftrue, flft, Memory, Routine, Heap, Calls, Loops, Atoms, FmC, Fun, givenOf, u8, i32, Is, owns, RefT, MutRef, sliceVal, ShrSlice, MutSlice, shr-slice-lawful, owned, Triple, cited, says, Given, ‵, _⊛_, _$_, _∵_, !, qed, move, drop, split, join, fsplit, fjoin, feqL, frame, done, agg, whole, sub, look-in, store-in, look, stop, hop, fld, from, addr, and-then, no-more, of-opd, returns, load, assigns, Params, shared, passedOn, lent, enters, leaves, whole-of, field-of, puts, lands-in, Callee, calls-by, borrowed, given-back, Walk, ends, proved, use1}
 use Rattle.walks.proofs.Pairs.{first-of, second-of}
-use Rattle.tray.specs.Ring.{Turns}
-use Rattle.tray.specs.declared.Tray.{Tray}
+use Rattle.tray.specs.Calls.{Turns}
+use Rattle.ring.specs.declared.Tray.{Tray}
 use Rattle.tray.specs.declared.TurnDone.{TurnDone}
-use Rattle.tray.proofs.Tray as T
-use Rattle.tray.proofs.Tray.Laws as T′
+use Rattle.ring.proofs.Tray as T
+use Rattle.ring.proofs.Tray.Laws as T′
 use Rattle.tray.proofs.TurnAnswer as E
 use Rattle.tray.proofs.TurnAnswer.Laws as E′
 use Rattle.tray.proofs.TurnDone as D

@@ -9,11 +9,11 @@ use denote.Enum.Laws as EL
 use Rattle.walks.proofs.Words.{URA, named, w64, Val, vint, vptr, SProp, id⊢, ftrue, flft, Memory, Routine, Heap, Calls, Loops, Atoms, FmC, Fun, givenOf, Is, owns, RefT, MutRef, owned, Triple, cited, says, Given, ‵, _⊛_, _$_, _∵_, !, qed, move, drop, split, join, fsplit, fjoin, frame, done, whole, look-in, store-in, look, stop, hop, from, and-then, no-more, of-opd, returns, load, assigns, Params, number, lent, enters, leaves, whole-of, puts, lands-in, Callee, calls-by, borrowed, given-back, Walk, ends, proved}
 use Rattle.walks.proofs.Copies.{copies}
 use Rattle.walks.proofs.Pairs.{first-of, second-of}
-use Rattle.tray.specs.Ring.{withdrawOf}
-use Rattle.tray.specs.declared.Tray.{Tray}
+use Rattle.tray.specs.Calls.{withdrawOf}
+use Rattle.ring.specs.declared.Tray.{Tray}
 use Rattle.tray.specs.declared.WithdrawDone.{WithdrawDone}
-use Rattle.tray.proofs.Tray as T
-use Rattle.tray.proofs.Tray.Laws as T′
+use Rattle.ring.proofs.Tray as T
+use Rattle.ring.proofs.Tray.Laws as T′
 use Rattle.tray.proofs.WithdrawAnswer as E
 use Rattle.tray.proofs.WithdrawAnswer.Laws as E′
 use Rattle.tray.proofs.WithdrawDone as D

@@ -1,56 +1,67 @@
--- `tray::turn` meets its contract: it is refused, or the front job is served with the first places of the buffer. Assumes nothing.
-use mathlib.Core.Path.{sym}
-use denote.Ref.{now}
-use lib.Seq.{length-take-le}
-use Rattle.dimacs.specs.Names.{ownRoom}
-use Rattle.tray.proofs.Ring.{idle, short, turned}
+-- `tray::turn` meets its contract: it is refused, or the front job is served and told. Assumes nothing.
+use Rattle.tray.proofs.Turns.{nothing-turned, short-turned, job-turned}
 use borrow.Author.Needs.{needs}
 use Rattle.tray.proofs.turn.Statement.{statement}
 use Rattle.tray.proofs.turn.Tie as tie
 
+-- The front job was asked for, seen from where there is one.
+abbrev asked : tie.After-known-told → tie.After-front-job
+asked c = c .before .before .before
+
+front-job-requires : tie.Need-front-job-requires
+front-job-requires c κs = tt
+
+enum-told : tie.Need-enum-told
+enum-told c = c .match .keys1
+
+not-turned-requires : tie.Need-not-turned-requires
+not-turned-requires c κs = tt
+
+enum-known-job : tie.Need-enum-known-job
+enum-known-job c = c .match .keys2
+
+not-turned-requires-2 : tie.Need-not-turned-requires-2
+not-turned-requires-2 c κs = tt
+
 returns : tie.Need-returns
-returns c = idle _ _ _ (c .if1 .taken)
-
-returns-2 : tie.Need-returns-2
-returns-2 c = short _ _ _ (c .before .if1 .left) (c .if2 .taken)
-
-mul-job : tie.Need-mul-job
-mul-job c = search needs
-
-element-copy-out-job : tie.Need-element-copy-out-job
-element-copy-out-job c = search needs
-
-slice-relend-prefix-serve : tie.Need-slice-relend-prefix-serve
-slice-relend-prefix-serve c = search needs
-
-slice-aggregate-serve : tie.Need-slice-aggregate-serve
-slice-aggregate-serve c = sym (length-take-le ownRoom (now (c .before .before .before .before .before .args .lits)) (c .before .before .if2 .left))
+returns c =
+    let short = c .before in
+    let waits = short .before in
+    short-turned _ _ _ (asked waits .front-job .ensures) (waits .before .job .given .1) (short .if1 .taken) (c .not-turned2 .ensures)
 
 serve-requires : tie.Need-serve-requires
-serve-requires c κs = search needs
+serve-requires c κs = c .before .if1 .left
 
-pass-requires : tie.Need-pass-requires
-pass-requires c κs = search needs
+tell-requires : tie.Need-tell-requires
+tell-requires c κs = tt
+
+returns-2 : tie.Need-returns-2
+returns-2 c =
+    let nothing = c .before in
+    nothing-turned _ _ _ (nothing .before .before .front-job .ensures) (nothing .enum-told .given .1) (c .not-turned .ensures)
 
 same-length : tie.Need-same-length
 same-length c = search needs
 
 returns-3 : tie.Need-returns-3
 returns-3 c =
-    let s = c .before .before .before .before .before in
-    turned _ _ _ (s .before .if1 .left) _ _ _ (s .if2 .left) (c .before .before .serve .ensures) (c .pass .ensures)
+    let served = c .before .before in
+    let roomy = served .before .before in
+    let waits = roomy .before in
+    job-turned _ _ _ (asked waits .front-job .ensures) (waits .before .job .given .1) (roomy .if1 .left) (served .serve .ensures) (c .tell .ensures)
 
 pub turn-spec : {M : Type 1} → statement M
 turn-spec =
     tie.close
     (tie.spec
+    front-job-requires
+    enum-told
+    not-turned-requires
+    enum-known-job
+    not-turned-requires-2
     returns
-    returns-2
-    mul-job
-    element-copy-out-job
-    slice-relend-prefix-serve
-    slice-aggregate-serve
     serve-requires
-    pass-requires
+    tell-requires
+    returns-2
     same-length
     returns-3)

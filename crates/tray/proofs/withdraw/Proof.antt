@@ -1,23 +1,20 @@
--- `tray::withdraw` meets its contract: the ticket stands somewhere, or it is refused. Assumes nothing.
-use Rattle.tray.proofs.Finds.{taken, absent}
+-- `tray::withdraw` meets its contract, by whether the ticket waited. Assumes nothing.
+use mathlib.Core.Path.{sym, _∙_, ap}
+use Rattle.tray.specs.Calls.{withdrawOf}
 use borrow.Author.Needs.{needs}
 use Rattle.tray.proofs.withdraw.Statement.{statement}
 use Rattle.tray.proofs.withdraw.Tie as tie
 
-held-requires : tie.Need-held-requires
-held-requires c κs = search needs
-
-find-requires : tie.Need-find-requires
-find-requires c κs = search needs
-
-close-up-requires : tie.Need-close-up-requires
-close-up-requires c κs = search needs
+take-out-requires : tie.Need-take-out-requires
+take-out-requires c κs = tt
 
 returns : tie.Need-returns
-returns c = let a = c .before .before .before .before .args in taken (a .tray) (a .ticket) _ _ (c .before .before .before .held .ensures) (c .before .before .find .ensures) (c .before .if1 .taken) _ (c .close-up .ensures)
+unfolding withdrawOf
+returns c = let out = c .before .before in rw (← out .take-out .ensures, c .if1 .taken)
 
 returns-2 : tie.Need-returns-2
-returns-2 c = let a = c .before .before .before .args in absent (a .tray) (a .ticket) _ _ (c .before .before .held .ensures) (c .before .find .ensures) (c .if1 .left)
+unfolding withdrawOf
+returns-2 c = let out = c .before .before in rw (← out .take-out .ensures, c .if1 .left)
 
 pub withdraw-spec : {M : Type 1} → statement M
-withdraw-spec = tie.close (tie.spec held-requires find-requires close-up-requires returns returns-2)
+withdraw-spec = tie.close (tie.spec take-out-requires returns returns-2)

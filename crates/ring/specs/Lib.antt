@@ -1,0 +1,2 @@
+-- The ring of jobs.
+pub mod Ring
