@@ -36,7 +36,7 @@ use Rattle.tray.specs.Answers.{putSays, turnSays, withdrawSays}
 use Rattle.fairness.specs.Promises.{Lent, Calls, did, BufferKept, Refusals, answered, left, thenPut, since, Holds, saidAlone, Account, Tickets, EnoughPlaces, Bound, Content, Demand, Silence}
 use Rattle.fairness.proofs.Rings.{length-moved}
 use Rattle.fairness.proofs.Desk.{view, desk, call-is}
-use Rattle.fairness.proofs.Reader.{leftOf, falls, PartOf, lasts, Begins, entry-begins, lawful, solo, alike, whole}
+use Rattle.fairness.proofs.Reader.{turnsLeftOf, falls, PartOf, lasts, Begins, entry-begins, lawful, solo, alike, whole}
 
 -- Whatever keeps the contract of `turn` is the turn of which the promises speak.
 pub turn-did : {t : Tray} {area : List ℕ} {old new : List ℤ} {r : TurnDone} → Turns t area old new r
@@ -212,7 +212,7 @@ tray-bound before p after k h w n =
     let a = then-waits before p k h in
     let e = since-are before p after in
     rw e
-    (fair desk lawful leftOf falls after (then before p .after) (jobOf k (p .start) (p .length) (stage.Fresh (a .format) (a .mode))) (a .ahead-of)
+    (fair desk lawful turnsLeftOf falls after (then before p .after) (jobOf k (p .start) (p .length) (stage.Fresh (a .format) (a .mode))) (a .ahead-of)
     (then-sound before p) (a .stands) (rw e at w) (omega (arith, a .below, rw e at n)))
 
 pub tray-content : Content

@@ -44,12 +44,12 @@ use Rattle.fairness.specs.Promises.{Lent, Holds, saidAlone}
 use Rattle.fairness.proofs.Desk.{entryBy, goesBy, servedBy, desk}
 
 -- The turns that a job of n bytes may need after its next one.
-abbrev pub leftBy : ℕ → Stage → ℕ
-leftBy n (stage.Fresh f m) = 1 + (n + 1) / 2
-leftBy n (stage.Reading c) = (n + 1 - c .progress .place) / 2
+abbrev pub turnsLeft : ℕ → Stage → ℕ
+turnsLeft n (stage.Fresh f m) = 1 + (n + 1) / 2
+turnsLeft n (stage.Reading c) = (n + 1 - c .progress .place) / 2
 
-abbrev pub leftOf : Job → ℕ
-leftOf j = leftBy (j .length) (j .stage)
+abbrev pub turnsLeftOf : Job → ℕ
+turnsLeftOf j = turnsLeft (j .length) (j .stage)
 
 over : {X : Type 0} {c : Cursor} → Over ≡ On c → X
 over h = let z : _≡_ {A = ℕ} 0 1 = cc in absurd (omega arith)
@@ -57,7 +57,7 @@ over h = let z : _≡_ {A = ℕ} 0 1 = cc in absurd (omega arith)
 never : {X : Type 0} {j : Job} → _≡_ {A = Option Job} none (some j) → X
 never h = let z : _≡_ {A = ℕ} 0 1 = cc in absurd (omega arith)
 
-serving-falls : (s : List ℕ) (x : Stage) (c : Cursor) → serving s ownRoom x .goes ≡ On c → leftBy (length s) (stage.Reading c) < leftBy (length s) x
+serving-falls : (s : List ℕ) (x : Stage) (c : Cursor) → serving s ownRoom x .goes ≡ On c → turnsLeft (length s) (stage.Reading c) < turnsLeft (length s) x
 unfolding serving openedAs
 serving-falls s (stage.Fresh f m) c h = omega arith
 serving-falls s (stage.Reading x) c h = go (stepOf s ownRoom x .cursor) (stepOf s ownRoom x .answer) (call-leads s ownRoom x) h
@@ -91,11 +91,11 @@ serve-goes j e j′ h =
     go Over q n g = never g
     go (On c) q n g = record { cursor = c; is = let k : goesOn j c ≡ j′ = cc in sym k; size = n; served = q }
 
-pub falls : (j : Job) (e : Lent) (j′ : Job) → desk .serve j e .goes ≡ some j′ → leftOf j′ < leftOf j
+pub falls : (j : Job) (e : Lent) (j′ : Job) → desk .serve j e .goes ≡ some j′ → turnsLeftOf j′ < turnsLeftOf j
 falls j e j′ h =
     let g = serve-goes j e j′ h in
-    subst (λ x. leftOf x < leftOf j) (sym (g .is))
-    (subst (λ n. leftBy n (stage.Reading (g .cursor)) < leftBy n (j .stage)) (g .size) (serving-falls (part j (e .area)) (j .stage) (g .cursor) (g .served)))
+    subst (λ x. turnsLeftOf x < turnsLeftOf j) (sym (g .is))
+    (subst (λ n. turnsLeft n (stage.Reading (g .cursor)) < turnsLeft n (j .stage)) (g .size) (serving-falls (part j (e .area)) (j .stage) (g .cursor) (g .served)))
 
 -- A job names the put's part of the area.
 abbrev pub PartOf : Put → Job → Type 0
