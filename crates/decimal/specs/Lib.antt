@@ -1,0 +1,2 @@
+-- What is put into a lent output.
+pub mod Pieces
