@@ -1,10 +1,12 @@
 -- How long the parts of a line are, and whole lines put. Assumes nothing.
-use Prim.Native.Nat.{ℕ, _+_, _-_, _/_, _≤_, _<_}
-use mathlib.Core.Bool.{false}
-use mathlib.Core.List.{List, _++_, append-assoc}
+use Prim.Native.Nat.{ℕ, _+_, _≤_, _<_}
+use mathlib.Core.List.{List, [], _∷_, _++_, append-assoc}
+use mathlib.Core.Logic.{⊎-elim}
 use mathlib.Core.Path.{_≡_, refl, ap, sym, _∙_}
 use native.Mathlib.Omega.{arith}
-use borrow.Author.Tests.{le-leb, lt-leb, leb-true, leb-false}
+use borrow.Author.Tests.{le-leb, lt-leb, leb-true}
+use denote.Enum.Declared.{tagOf}
+use types.Run.{OneOf}
 use lib.Dec.{leb}
 use lib.IntN.{ℤ}
 use lib.ListN.{length, drop, length-append}
@@ -18,12 +20,13 @@ use Rattle.dimacs.specs.declared.Format.{Format}
 use Rattle.dimacs.specs.declared.Format.the-variants.{Plain, Weighted, Grouped}
 use Rattle.dimacs.specs.declared.Header.{Header}
 use Rattle.dimacs.specs.declared.Refusal.{Refusal}
-use Rattle.dimacs.proofs.Tests.{tested, chosen}
-use Rattle.writer.specs.Puts.{Puts, start, count}
-use Rattle.writer.specs.Answers.{Writes, writtenOf, lineOf, lineLength}
+use Rattle.dimacs.proofs.Format.{the-type}
+use Rattle.dimacs.proofs.Tests.{chosen}
+use Rattle.decimal.specs.Pieces.{PutAt}
+use Rattle.writer.specs.Lines.{headerStart, headerCount}
+use Rattle.writer.specs.Answers.{Writes, writtenOf, bytesWritten, lineLength}
 use Rattle.writer.specs.declared.Written.{Written}
 use Rattle.writer.specs.declared.Written.the-variants.{Line, Refused}
-use Rattle.writer.proofs.Digits.{few}
 
 pub weight-long : (w : ℕ) → length (lead Weighted w) ≡ length (digits w) + 1
 weight-long w = length-append (digits w) (bytes " ")
@@ -31,64 +34,61 @@ weight-long w = length-append (digits w) (bytes " ")
 pub group-long : (g : ℕ) → length (lead Grouped g) ≡ length (digits g) + 3
 group-long g = omega (arith, length-append (digits g) (bytes "} "))
 
-pub lead-few : (f : Format) (extra : ℕ) → length (lead f extra) ≤ extra / 10 + 4
-lead-few Plain extra = omega arith
-lead-few Weighted extra = omega (arith, weight-long extra, few extra)
-lead-few Grouped extra = omega (arith, group-long extra, few extra)
+-- A clause's line in its pieces, as they are to come and as they are put.
+module _ (f : Format) (extra : ℕ) (so : List ℤ) where
+  pub clause-to-come : clauseLine f extra so ≡ lead f extra ++ (items so ++ bytes "0\n")
+  unfolding clauseLine
+  clause-to-come = append-assoc (lead f extra) (items so) (bytes "0\n")
 
--- A clause's line is its literals, and what stands around them.
-pub clause-long : (f : Format) (extra : ℕ) (so : List ℤ) → length (clauseLine f extra so) ≡ length (lead f extra) + 2 + length (items so)
-unfolding clauseLine
-clause-long f extra so =
-    length-append (lead f extra ++ items so) (bytes "0\n") ∙ omega (arith, length-append (lead f extra) (items so))
+  pub clause-put : clauseLine f extra so ≡ lead f extra ++ items so ++ bytes "0\n"
+  unfolding clauseLine
+  clause-put = refl
 
-pub around-few : (f : Format) (third : ℕ) → length (start f) + length (thirdDigits f third) ≤ third / 10 + 8
-around-few Plain third = omega arith
-around-few Weighted third = omega (arith, few third)
-around-few Grouped third = omega (arith, few third)
+  pub clause-long : length (clauseLine f extra so) ≡ length (lead f extra) + 2 + length (items so)
+  clause-long = ap length clause-to-come ∙ simp length-append (omega arith)
 
--- A clause's line fits if what stands around its literals does and the literals fit in the rest.
-module _ (f : Format) (extra : ℕ) (so : List ℤ) {n room : ℕ} (e : n ≡ length (lead f extra)) where
-  pub no-fit : room < n + 2 → false ≡ leb (length (clauseLine f extra so)) room
-  no-fit h = sym (lt-leb (length (clauseLine f extra so)) room (omega (arith, e, clause-long f extra so)))
+-- A format that is not the plain one, as the last arm of a match knows it, has a third count.
+abbrev NotPlain : Format → Type 0
+NotPlain f = OneOf (1 ∷ 2 ∷ []) (tagOf the-type f)
 
-  pub fit-around : n + 2 ≤ room → leb (length (items so)) (room - (n + 2)) ≡ leb (length (clauseLine f extra so)) room
-  fit-around h =
-      tested (leb (length (items so)) (room - (n + 2)))
-      (λ t. t ∙ sym (le-leb (length (clauseLine f extra so)) room (omega (arith, e, clause-long f extra so, leb-true (length (items so)) (room - (n + 2)) t))))
-      (λ t. t ∙ sym (lt-leb (length (clauseLine f extra so)) room (omega (arith, e, clause-long f extra so, leb-false (length (items so)) (room - (n + 2)) t))))
+not-plain : NotPlain Plain → ⊥
+not-plain k = ⊎-elim (λ e. omega (arith, e)) (λ e. omega (arith, e)) k
 
--- A header's line in its parts.
-pub header-parts : (f : Format) (h : Header) → headerLine f h ≡ start f ++ count (h .variables) ++ count (h .clauses) ++ thirdDigits f (h .third) ++ bytes "\n"
-unfolding headerLine
-header-parts f h =
-    ap (λ x. x ++ bytes " " ++ digits (h .clauses) ++ thirdDigits f (h .third) ++ bytes "\n") (append-assoc (start f) (bytes " ") (digits (h .variables)))
-    ∙ ap (λ x. x ++ thirdDigits f (h .third) ++ bytes "\n") (append-assoc (start f ++ count (h .variables)) (bytes " ") (digits (h .clauses)))
+pub third-count : (f : Format) (third : ℕ) → NotPlain f → thirdDigits f third ≡ headerCount third
+third-count Plain third k = absurd (not-plain k)
+third-count Weighted third k = refl
+third-count Grouped third k = refl
 
-pub header-long : (f : Format) (h : Header)
-    → length (headerLine f h) ≡ length (start f) + length (thirdDigits f (h .third)) + (length (digits (h .variables)) + length (digits (h .clauses)) + 2) + 1
-header-long f h =
-    let s = start f in
-    let v = count (h .variables) in
-    let c = count (h .clauses) in
-    let t = thirdDigits f (h .third) in
-    ap length (header-parts f h)
-    ∙ omega (arith, length-append (s ++ v ++ c ++ t) (bytes "\n"), length-append (s ++ v ++ c) t, length-append (s ++ v) c, length-append s v)
+regrouped : (a b c d e : List ℕ) → a ++ (b ++ (c ++ (d ++ e))) ≡ a ++ b ++ c ++ d ++ e
+regrouped a b c d e = simp append-assoc
 
-pub puts-clause : (f : Format) (extra : ℕ) (so : List ℤ) {old new : List ℕ} {r : ℕ} → Puts 0 (lead f extra ++ items so ++ bytes "0\n") old new r → Puts 0 (clauseLine f extra so) old new r
-unfolding clauseLine
-puts-clause f extra so h = h
+-- A header's, the same two ways.
+module _ (f : Format) (h : Header) where
+  pub header-to-come : headerLine f h ≡ headerStart f ++ (headerCount (h .variables) ++ (headerCount (h .clauses) ++ (thirdDigits f (h .third) ++ bytes "\n")))
+  unfolding headerLine
+  header-to-come = simp append-assoc
 
-pub puts-header : (f : Format) (h : Header) {old new : List ℕ} {r : ℕ}
-    → Puts 0 (start f ++ count (h .variables) ++ count (h .clauses) ++ thirdDigits f (h .third) ++ bytes "\n") old new r → Puts 0 (headerLine f h) old new r
-puts-header f h k = rw (header-parts f h) k
+  pub header-put : headerLine f h ≡ headerStart f ++ headerCount (h .variables) ++ headerCount (h .clauses) ++ thirdDigits f (h .third) ++ bytes "\n"
+  header-put = header-to-come ∙ regrouped (headerStart f) (headerCount (h .variables)) (headerCount (h .clauses)) (thirdDigits f (h .third)) (bytes "\n")
+
+  header-long : length (headerLine f h) ≡ length (headerStart f) + length (digits (h .variables)) + length (digits (h .clauses)) + length (thirdDigits f (h .third)) + 3
+  header-long = ap length header-to-come ∙ simp length-append (omega arith)
+
+pub plain-long : {f : Format} (h : Header) → f ≡ Plain → length (headerLine f h) ≡ length (digits (h .variables)) + length (digits (h .clauses)) + 8
+plain-long h e = rw e (omega (arith, header-long Plain h))
+
+pub third-long : (f : Format) (h : Header) → NotPlain f
+    → length (headerLine f h) ≡ length (digits (h .variables)) + length (digits (h .clauses)) + length (digits (h .third)) + 10
+third-long Plain h k = absurd (not-plain k)
+third-long Weighted h k = omega (arith, header-long Weighted h)
+third-long Grouped h k = omega (arith, header-long Grouped h)
 
 -- A refusal leaves the output as it was.
 pub unwritten-at : {d : def.Written} {old : List ℕ} {why : Refusal} {r : Written} → d ≡ def.unwritten why → r ≡ Refused why → Writes d old old r
 unwritten-at e a = rw e (record { answer = a; output = refl })
 
 -- A line that is put stands at the output's front, and what was behind it is as it was.
-pub written-at : {d : def.Written} {line old new : List ℕ} {r : ℕ} → d ≡ def.fits (length old) line → length line ≤ length old → Puts 0 line old new r → Writes d old new (Line r)
+pub written-at : {d : def.Written} {line old new : List ℕ} {r : ℕ} → d ≡ def.fits (length old) line → length line ≤ length old → PutAt 0 line old new r → Writes d old new (Line r)
 written-at {d} {line} {old} {new} {r} e l h =
     let k : 0 + length line ≡ length line = omega arith in
     rw (e, le-leb (length line) (length old) l) (record { answer = ap Line (h .past ∙ k); output = h .output ∙ sets-eq line old 0 (omega (arith, l)) ∙ ap (λ n. line ++ drop n old) k })
@@ -117,7 +117,7 @@ module _ (f : Format) (h : Header) (room : ℕ) where
 
 -- What is written is no longer than the output.
 abbrev Within : ℕ → def.Written → Type 0
-Within room d = length (lineOf d) ≤ room
+Within room d = length (bytesWritten d) ≤ room
 
 fits-within : (room : ℕ) (line : List ℕ) → Within room (def.fits room line)
 fits-within room line = chosen (Within room) (leb (length line) room) (leb-true (length line) room) (λ t. omega arith)
@@ -130,13 +130,13 @@ pub header-within : (f : Format) (h : Header) (room : ℕ) → Within room (def.
 unfolding def.writeHeader
 header-within f h room = chosen (Within room) (leb (h .variables) ceiling) (λ t. fits-within room (headerLine f h)) (λ t. omega arith)
 
-told : (d : def.Written) → lineLength (writtenOf d) ≡ length (lineOf d)
-told (def.written line) = refl
-told (def.unwritten r) = refl
+length-told : (d : def.Written) → lineLength (writtenOf d) ≡ length (bytesWritten d)
+length-told (def.written line) = refl
+length-told (def.unwritten r) = refl
 
 -- So is the length that is answered.
 pub line-within : {d : def.Written} {old new : List ℕ} {r : Written} → Within (length old) d → Writes d old new r → lineLength r ≤ length old
-line-within {d} h w = rw (w .answer, told d) h
+line-within {d} h w = rw (w .answer, length-told d) h
 
 -- Two answers that the contract permits are equal, and leave the same output.
 pub one-writing : {d : def.Written} {old n₁ n₂ : List ℕ} {r₁ r₂ : Written} → Writes d old n₁ r₁ → Writes d old n₂ r₂ → (r₁ ≡ r₂) × (n₁ ≡ n₂)

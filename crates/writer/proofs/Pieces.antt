@@ -1,61 +1,74 @@
 -- Pieces of a line put one after the other. Assumes nothing.
-use Prim.Native.Nat.{ℕ, suc, _+_, _≤_, _<_}
+use Prim.Native.Nat.{ℕ, suc, _+_, _≤_}
 use mathlib.Core.List.{List, [], _∷_, _++_}
 use mathlib.Core.Path.{_≡_, refl, ap, sym, _∙_}
 use native.Mathlib.Numerals.{add-one}
 use native.Mathlib.Omega.{arith}
-use lib.ListN.{length, getD, set, take, length-append}
-use lib.Seq.{sets, length-sets, take-suc, take-all, length-take-le}
-use Rattle.writer.specs.Puts.{Puts}
+use lib.Dec.{leb}
+use lib.ListN.{length, set, length-append}
+use lib.Seq.{sets, length-sets}
+use Rattle.dimacs.proofs.Tests.{chosen}
+use Rattle.decimal.specs.Pieces.{PutAt, ifRoom}
+use Rattle.decimal.proofs.Pieces.{puts-whole}
 
 sets-append : {A : Type 0} (a b l : List A) (at : ℕ) → sets l at (a ++ b) ≡ sets (sets l at a) (at + length a) b
 sets-append [] b l at = ap (λ k. sets l k b) (omega arith)
 sets-append (x ∷ a) b l at = sets-append a b (set l at x) (suc at) ∙ ap (λ k. sets (sets (set l at x) (suc at) a) k b) (omega arith)
 
--- No piece is put.
-pub puts-none : (at : ℕ) (old : List ℕ) → Puts at [] old old at
-puts-none at old = record { past = omega arith; output = refl }
+-- No piece is put, whatever room there is.
+pub put-nothing : (at : ℕ) (old : List ℕ) → PutAt at [] old old at
+put-nothing at old = record { past = omega arith; output = refl }
+
+pub put-nothing-if-room : (at : ℕ) (old : List ℕ) → PutAt at (ifRoom at [] old) old old at
+put-nothing-if-room at old = chosen (λ piece. PutAt at piece old old at) (leb (at + length {A = ℕ} []) (length old)) (λ t. put-nothing at old) (λ t. put-nothing at old)
 
 -- A piece, and another from where it ends.
-pub puts-on : {at : ℕ} {a b old mid new : List ℕ} {i r : ℕ} → Puts at a old mid i → Puts i b mid new r → Puts at (a ++ b) old new r
-puts-on {at} {a} {b} {old} {mid} {new} {i} {r} h k =
+pub put-then : {at : ℕ} {a b old mid new : List ℕ} {i r : ℕ} → PutAt at a old mid i → PutAt i b mid new r → PutAt at (a ++ b) old new r
+put-then {at} {a} {b} {old} {mid} {new} {i} {r} h k =
     record {
       past = omega (arith, h .past, k .past, length-append a b);
       output = k .output ∙ rw (h .output, h .past) (sym (sets-append a b old at));
     }
 
-pub puts-long : {at : ℕ} {a old new : List ℕ} {r : ℕ} → Puts at a old new r → length new ≡ length old
-puts-long {at} {a} {old} h = ap length (h .output) ∙ length-sets old at a
+pub put-keeps-length : {at : ℕ} {a old new : List ℕ} {r : ℕ} → PutAt at a old new r → length new ≡ length old
+put-keeps-length {at} {a} {old} h = ap length (h .output) ∙ length-sets old at a
 
--- Where there is room for two pieces, there is room for the first, and then for the other.
-pub room-first : (at : ℕ) (a b : List ℕ) {n : ℕ} → at + length (a ++ b) ≤ n → at + length a ≤ n
-room-first at a b h = omega (arith, h, length-append a b)
+-- A piece is put, and behind it there is room for the rest.
+pub record PutBefore (rest : List ℕ) (at : ℕ) (piece old new : List ℕ) (r : ℕ) : Type 0 where
+  pub put : PutAt at piece old new r
+  pub room : r + length rest ≤ length new
+  pub long : length new ≡ length old
 
-pub room-then : {at : ℕ} {a old mid : List ℕ} {i : ℕ} → Puts at a old mid i → (b : List ℕ) → at + length (a ++ b) ≤ length old → i + length b ≤ length mid
-room-then {at} {a} {old} {mid} {i} h b k = omega (arith, k, h .past, puts-long h, length-append a b)
+pub put-before : {at : ℕ} {a old mid : List ℕ} {i : ℕ} → PutAt at a old mid i → (rest : List ℕ) → at + length (a ++ rest) ≤ length old → PutBefore rest at a old mid i
+put-before {at} {a} {old} {mid} {i} h rest k =
+    let l = put-keeps-length h in
+    record { put = h; room = omega (arith, k, h .past, l, length-append a rest); long = l }
 
--- One byte.
-pub puts-byte : (at b : ℕ) (old : List ℕ) → Puts at (b ∷ []) old (set old at b) (at + 1)
-puts-byte at b old = record { past = refl; output = refl }
+-- A piece that is put if it has room is put whole.
+pub whole-before : (at : ℕ) (a rest old : List ℕ) → at + length (a ++ rest) ≤ length old → {mid : List ℕ} {i : ℕ} → PutAt at (ifRoom at a old) old mid i → PutBefore rest at a old mid i
+whole-before at a rest old k h = put-before (puts-whole at a old (omega (arith, k, length-append a rest)) h) rest k
 
--- The first bytes of a piece are put.
-pub record Copied (at : ℕ) (piece old out : List ℕ) (i : ℕ) : Type 0 where
-  pub within : i ≤ length piece
-  pub output : out ≡ sets old at (take i piece)
+-- One piece more.
+module _ {at : ℕ} {a old mid : List ℕ} {i : ℕ} (b rest : List ℕ) (h : PutBefore (b ++ rest) at a old mid i) where
+  pub next-room : i + length b ≤ length mid
+  next-room = omega (arith, h .room, length-append b rest)
 
-pub copied-more : {at : ℕ} {piece old out : List ℕ} {i : ℕ} → Copied at piece old out i → i < length piece → Copied at piece old (set out (at + i) (getD piece i 0)) (i + 1)
-copied-more {at} {piece} {old} {out} {i} h l =
-    let k = length-take-le i piece (h .within) in
-    record {
-      within = omega arith;
-      output =
-          rw (add-one, take-suc piece i 0 l)
-          (ap (λ o. set o (at + i) (getD piece i 0)) (h .output) ∙ sym (sets-append (take i piece) (getD piece i 0 ∷ []) old at ∙ ap (λ n. set (sets old at (take i piece)) (at + n) (getD piece i 0)) k));
-    }
+  pub then-before : {new : List ℕ} {r : ℕ} → PutAt i b mid new r → PutBefore rest at (a ++ b) old new r
+  then-before {r = r} k =
+      let l = put-keeps-length k in
+      record { put = put-then (h .put) k; room = omega (arith, h .room, k .past, l, length-append b rest); long = l ∙ h .long }
 
-pub copied-all : {at : ℕ} {piece old out : List ℕ} {i : ℕ} → Copied at piece old out i → length piece ≤ i → Puts at piece old out (at + i)
-copied-all {at} {piece} {old} {out} {i} h l =
-    record { past = omega (arith, h .within); output = h .output ∙ ap (sets old at) (take-all i piece l) }
+  pub then-whole : {new : List ℕ} {r : ℕ} → PutAt i (ifRoom i b mid) mid new r → PutBefore rest at (a ++ b) old new r
+  then-whole k = then-before (puts-whole i b mid next-room k)
 
-pub copied-long : {at : ℕ} {piece old out : List ℕ} {i : ℕ} → Copied at piece old out i → length out ≡ length old
-copied-long {at} {piece} {old} {out} {i} h = ap length (h .output) ∙ length-sets old at (take i piece)
+-- Bytes that are stored one by one.
+pub put-one : (at a : ℕ) (old : List ℕ) → PutAt at (a ∷ []) old (set old at a) (at + 1)
+put-one at a old = record { past = refl; output = refl }
+
+pub put-two : (at a b : ℕ) (old : List ℕ) → PutAt at (a ∷ b ∷ []) old (set (set old at a) (at + 1) b) (at + 2)
+put-two at a b old = record { past = refl; output = rw (add-one at) }
+
+pub put-three : (at a b c : ℕ) (old : List ℕ) → PutAt at (a ∷ b ∷ c ∷ []) old (set (set (set old at a) (at + 1) b) (at + 2) c) (at + 3)
+put-three at a b c old =
+    let e : at + 2 ≡ suc (suc at) = omega arith in
+    record { past = refl; output = rw (add-one at, e) }

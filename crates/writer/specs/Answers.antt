@@ -13,14 +13,10 @@ abbrev pub writtenOf : def.Written → Written
 writtenOf (def.written line) = Line (length line)
 writtenOf (def.unwritten r) = Refused r
 
--- A refusal by its number and place.
-abbrev pub unwrittenBy : ℕ → ℕ → Written
-unwrittenBy number at = Refused (record { number = number; place = at })
-
 -- The bytes that were written.
-abbrev pub lineOf : def.Written → List ℕ
-lineOf (def.written line) = line
-lineOf (def.unwritten r) = []
+abbrev pub bytesWritten : def.Written → List ℕ
+bytesWritten (def.written line) = line
+bytesWritten (def.unwritten r) = []
 
 -- How long a line an answer tells of, 0 if of none.
 abbrev pub lineLength : Written → ℕ
@@ -30,4 +26,4 @@ lineLength (Refused r) = 0
 -- The answer, and the output after it: the line, then what it held.
 pub record Writes (d : def.Written) (old new : List ℕ) (r : Written) : Type 0 where
   pub answer : r ≡ writtenOf d
-  pub output : new ≡ laid (lineOf d) old
+  pub output : new ≡ laid (bytesWritten d) old

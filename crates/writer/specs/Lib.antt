@@ -1,3 +1,3 @@
--- The pieces of a line, and the answers of the writers, by those of the definition.
-pub mod Puts
+-- The parts of a header, and the answers of the writers, by those of the definition.
+pub mod Lines
 pub mod Answers

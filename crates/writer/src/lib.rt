@@ -2,15 +2,20 @@
 //
 // A line is written whole or not at all: a writer answers the length of its line, or a refusal with the output untouched.
 ghost use mathlib.Core.Path.{_≡_};
-ghost use mathlib.Core.List.{_++_};
-ghost use Prim.Native.Nat.{_≤_, _+_};
+ghost use Prim.Native.Nat.{_+_, _-_, _≤_};
 ghost use lib.ListN.{length};
-ghost use lib.Dec.{leb};
-ghost use Rattle.dimacs.specs.Bytes.{bytes};
+ghost use Rattle.dimacs.specs.Names.{callNumbered};
 ghost use Rattle.dimacs.specs.Tokens.{run};
-ghost use Rattle.dimacs.specs.Writing.{digits, signedDigits, item, items, lead, thirdDigits, isLiteral, headerLine, clauseLine, writeHeader, writeClause};
-ghost use Rattle.writer.specs.Puts.{Puts, start, count};
-ghost use Rattle.writer.specs.Answers.{Writes, unwrittenBy};
+ghost use Rattle.dimacs.specs.Writing.{items, lead, thirdDigits, isLiteral, headerLine, clauseLine, writeHeader, writeClause};
+ghost use Rattle.decimal.specs.Pieces.{PutAt, ifRoom};
+ghost use Rattle.writer.specs.Lines.{headerStart};
+ghost use Rattle.writer.specs.Answers.{Writes};
+ghost use Rattle.writer.specs.declared.Written.the-variants.{Refused};
+use decimal::digit_count;
+use decimal::literal_length;
+use decimal::put_digits;
+use decimal::put_digits_after;
+use decimal::put_literal;
 use dimacs::CEILING;
 use dimacs::Format;
 use dimacs::Header;
@@ -19,6 +24,7 @@ use dimacs::OUTPUT_TOO_SHORT;
 use dimacs::Refusal;
 use dimacs::VARIABLE_COUNT_TOO_BIG;
 use dimacs::magnitude;
+use dimacs::refuse_call;
 
 // What a writer answers.
 pub enum Written {
@@ -28,106 +34,37 @@ pub enum Written {
     Refused(Refusal),
 }
 
-// How many digits a number has.
-fn digit_count(n: u64) -> usize
-    ensures { λ r. ⌜ r ≡ length (digits n) ⌝ }
-{
-    let mut left = n;
-    let mut count: usize = 1;
-    while 10 <= left {
-        left /= 10;
-        count += 1;
-    }
-    count
-}
-
-// A number in decimal, from its last digit to its first.
-fn put_digits(out: &mut [u8], at: usize, n: u64) -> usize
-    requires { ⌜ at + length (digits n) ≤ length (now out) ⌝ }
-    ensures { λ r. ⌜ Puts at (digits n) (now (out .entry)) (now (out .exit)) r ⌝ }
-{
-    let past = at + digit_count(n);
-    let mut left = n;
-    let mut i = past - 1;
-    while 10 <= left {
-        out[i] = b'0' + (left % 10) as u8;
-        left /= 10;
-        i -= 1;
-    }
-    out[i] = b'0' + left as u8;
-    past
-}
-
-fn put_bytes(out: &mut [u8], at: usize, piece: &[u8]) -> usize
-    requires { ⌜ at + length (now piece) ≤ length (now out) ⌝ }
-    ensures { λ r. ⌜ Puts at (now (piece .entry)) (now (out .entry)) (now (out .exit)) r ⌝ }
-{
-    let mut i: usize = 0;
-    while i < piece.len() {
-        out[at + i] = piece[i];
-        i += 1;
-    }
-    at + i
-}
-
-fn literal_length(literal: i32) -> usize
-    ensures { λ r. ⌜ r ≡ length (signedDigits literal) ⌝ }
-{
-    let size = digit_count(magnitude(literal));
-    if literal < 0 {
-        return 1 + size;
-    }
-    size
-}
-
-fn put_literal(out: &mut [u8], at: usize, literal: i32) -> usize
-    requires { ⌜ at + length (signedDigits literal) ≤ length (now out) ⌝ }
-    ensures { λ r. ⌜ Puts at (signedDigits literal) (now (out .entry)) (now (out .exit)) r ⌝ }
-{
-    if literal < 0 {
-        out[at] = b'-';
-        return put_digits(out, at + 1, magnitude(literal));
-    }
-    put_digits(out, at, magnitude(literal))
-}
-
-// A literal with the space after it.
-fn put_item(out: &mut [u8], at: usize, literal: i32) -> usize
-    requires { ⌜ at + length (item literal) ≤ length (now out) ⌝ }
-    ensures { λ r. ⌜ Puts at (item literal) (now (out .entry)) (now (out .exit)) r ⌝ }
-{
-    let past = put_literal(out, at, literal);
-    put_bytes(out, past, b" ")
-}
-
+// Literals, each with the space after it.
 fn put_literals(out: &mut [u8], at: usize, lits: &[i32]) -> usize
     requires { ⌜ at + length (items (now lits)) ≤ length (now out) ⌝ }
-    ensures { λ r. ⌜ Puts at (items (now (lits .entry))) (now (out .entry)) (now (out .exit)) r ⌝ }
+    ensures { λ r. ⌜ PutAt at (items (now (lits .entry))) (now (out .entry)) (now (out .exit)) r ⌝ }
 {
     let mut place = at;
     let mut i: usize = 0;
     while i < lits.len() {
-        place = put_item(out, place, lits[i]);
+        place = put_literal(out, place, lits[i]);
+        out[place] = b' ';
+        place += 1;
         i += 1;
     }
     place
 }
 
-// Whether literals with the spaces after them fit in so many bytes. Each is taken from the room, so that no sum can overflow.
-fn literals_fit(room: usize, lits: &[i32]) -> bool
-    ensures { λ r. ⌜ r ≡ leb (length (items (now (lits .entry)))) room ⌝ }
+// How many bytes are left of so many after literals with the spaces after them, 0 if these are more. Each is taken from what is left, so that no sum can overflow.
+fn left_after(room: usize, lits: &[i32]) -> usize
+    ensures { λ r. ⌜ r ≡ room - length (items (now (lits .entry))) ⌝ }
 {
     let mut left = room;
     let mut i: usize = 0;
     while i < lits.len() {
         let long = literal_length(lits[i]);
         if left <= long {
-            return false;
+            return 0;
         }
         left -= long + 1;
         i += 1;
     }
-    true
+    left
 }
 
 fn is_literal(literal: i32) -> bool
@@ -152,69 +89,54 @@ fn writable(lits: &[i32]) -> usize
     i
 }
 
-fn lead_length(format: Format, extra: u64) -> usize
-    ensures { λ r. ⌜ r ≡ length (lead format extra) ⌝ }
+// How long what stands around the literals is: the 0 and the line end, and a weight or group with its braces and its space.
+fn around_length(format: Format, extra: u64) -> usize
+    ensures { λ r. ⌜ r ≡ length (lead format extra) + 2 ⌝ }
 {
     match format {
-        Format::Plain => 0,
-        Format::Weighted => digit_count(extra) + 1,
-        Format::Grouped => digit_count(extra) + 3,
+        Format::Plain => 2,
+        Format::Weighted => digit_count(extra) + 3,
+        Format::Grouped => digit_count(extra) + 5,
     }
-}
-
-fn put_weight(out: &mut [u8], at: usize, weight: u64) -> usize
-    requires { ⌜ at + length (digits weight ++ bytes " ") ≤ length (now out) ⌝ }
-    ensures { λ r. ⌜ Puts at (digits weight ++ bytes " ") (now (out .entry)) (now (out .exit)) r ⌝ }
-{
-    let past = put_digits(out, at, weight);
-    put_bytes(out, past, b" ")
-}
-
-fn put_group(out: &mut [u8], at: usize, group: u64) -> usize
-    requires { ⌜ at + length (bytes "{" ++ digits group ++ bytes "} ") ≤ length (now out) ⌝ }
-    ensures { λ r. ⌜ Puts at (bytes "{" ++ digits group ++ bytes "} ") (now (out .entry)) (now (out .exit)) r ⌝ }
-{
-    let past_brace = put_bytes(out, at, b"{");
-    let past = put_digits(out, past_brace, group);
-    put_bytes(out, past, b"} ")
 }
 
 // What stands before the literals.
-fn put_lead(out: &mut [u8], at: usize, format: Format, extra: u64) -> usize
-    requires { ⌜ at + length (lead format extra) ≤ length (now out) ⌝ }
-    ensures { λ r. ⌜ Puts at (lead format extra) (now (out .entry)) (now (out .exit)) r ⌝ }
+fn put_lead(out: &mut [u8], format: Format, extra: u64) -> usize
+    requires { ⌜ length (lead format extra) ≤ length (now out) ⌝ }
+    ensures { λ r. ⌜ PutAt 0 (lead format extra) (now (out .entry)) (now (out .exit)) r ⌝ }
 {
     match format {
-        Format::Plain => at,
-        Format::Weighted => put_weight(out, at, extra),
-        Format::Grouped => put_group(out, at, extra),
+        Format::Plain => 0,
+        Format::Weighted => {
+            let past = put_digits(out, 0, extra);
+            out[past] = b' ';
+            past + 1
+        }
+        Format::Grouped => {
+            let past = put_digits_after(out, 0, b'{', extra);
+            out[past] = b'}';
+            out[past + 1] = b' ';
+            past + 2
+        }
     }
-}
-
-fn clause_fits(room: usize, format: Format, extra: u64, lits: &[i32]) -> bool
-    ensures { λ r. ⌜ r ≡ leb (length (clauseLine format extra (now (lits .entry)))) room ⌝ }
-{
-    let around = lead_length(format, extra) + 2;
-    if room < around {
-        return false;
-    }
-    literals_fit(room - around, lits)
 }
 
 fn put_clause(out: &mut [u8], format: Format, extra: u64, lits: &[i32]) -> usize
     requires { ⌜ length (clauseLine format extra (now lits)) ≤ length (now out) ⌝ }
-    ensures { λ r. ⌜ Puts 0 (clauseLine format extra (now (lits .entry))) (now (out .entry)) (now (out .exit)) r ⌝ }
+    ensures { λ r. ⌜ PutAt 0 (clauseLine format extra (now (lits .entry))) (now (out .entry)) (now (out .exit)) r ⌝ }
 {
-    let past_lead = put_lead(out, 0, format, extra);
+    let past_lead = put_lead(out, format, extra);
     let past = put_literals(out, past_lead, lits);
-    put_bytes(out, past, b"0\n")
+    out[past] = b'0';
+    out[past + 1] = b'\n';
+    past + 2
 }
 
 // Nothing was written, for a reason that no text is at fault for.
-fn unwritten(number: u8, place: usize) -> Written
-    ensures { λ r. ⌜ r ≡ unwrittenBy number place ⌝ }
+fn unwritten(number: u8, index: usize) -> Written
+    ensures { λ r. ⌜ r ≡ Refused (callNumbered number index) ⌝ }
 {
-    Written::Refused(Refusal { number, place })
+    Written::Refused(refuse_call(number, index))
 }
 
 // The line of a clause: its weight or group if the format has one, the literals, the 0 and the line end.
@@ -225,72 +147,68 @@ pub fn write_clause(format: Format, extra: u64, lits: &[i32], out: &mut [u8]) ->
     if good < lits.len() {
         return unwritten(LITERAL_NOT_WRITABLE, good);
     }
-    if clause_fits(out.len(), format, extra, lits) {
+    if around_length(format, extra) <= left_after(out.len(), lits) {
         return Written::Line(put_clause(out, format, extra, lits));
     }
     unwritten(OUTPUT_TOO_SHORT, 0)
 }
 
-// The word of a format in its header.
-fn put_word(out: &mut [u8], at: usize, format: Format) -> usize
-    requires { ⌜ at + length (start format) ≤ length (now out) ⌝ }
-    ensures { λ r. ⌜ Puts at (start format) (now (out .entry)) (now (out .exit)) r ⌝ }
+// What a header begins with, up to its word.
+fn put_start(out: &mut [u8], format: Format) -> usize
+    requires { ⌜ length (headerStart format) ≤ length (now out) ⌝ }
+    ensures { λ r. ⌜ PutAt 0 (headerStart format) (now (out .entry)) (now (out .exit)) r ⌝ }
 {
+    out[0] = b'p';
+    out[1] = b' ';
+    let mut past: usize = 2;
     match format {
-        Format::Plain => put_bytes(out, at, b"p cnf"),
-        Format::Weighted => put_bytes(out, at, b"p wcnf"),
-        Format::Grouped => put_bytes(out, at, b"p gcnf"),
+        Format::Plain => {}
+        Format::Weighted => {
+            out[2] = b'w';
+            past = 3;
+        }
+        Format::Grouped => {
+            out[2] = b'g';
+            past = 3;
+        }
     }
-}
-
-// A count after the space before it.
-fn put_count(out: &mut [u8], at: usize, n: u64) -> usize
-    requires { ⌜ at + length (count n) ≤ length (now out) ⌝ }
-    ensures { λ r. ⌜ Puts at (count n) (now (out .entry)) (now (out .exit)) r ⌝ }
-{
-    let past = put_bytes(out, at, b" ");
-    put_digits(out, past, n)
+    out[past] = b'c';
+    out[past + 1] = b'n';
+    out[past + 2] = b'f';
+    past + 3
 }
 
 // The third count, if the format has one.
 fn put_third(out: &mut [u8], at: usize, format: Format, third: u64) -> usize
-    requires { ⌜ at + length (thirdDigits format third) ≤ length (now out) ⌝ }
-    ensures { λ r. ⌜ Puts at (thirdDigits format third) (now (out .entry)) (now (out .exit)) r ⌝ }
+    ensures { λ r. ⌜ PutAt at (ifRoom at (thirdDigits format third) (now (out .entry))) (now (out .entry)) (now (out .exit)) r ⌝ }
 {
     match format {
         Format::Plain => at,
-        Format::Weighted => put_count(out, at, third),
-        Format::Grouped => put_count(out, at, third),
+        _ => put_digits_after(out, at, b' ', third),
     }
 }
 
-// How long the word and the third count of a format are.
-fn header_around(format: Format, third: u64) -> usize
-    ensures { λ r. ⌜ r ≡ length (start format) + length (thirdDigits format third) ⌝ }
-{
-    match format {
-        Format::Plain => 5,
-        Format::Weighted => 7 + digit_count(third),
-        Format::Grouped => 7 + digit_count(third),
-    }
-}
-
+// Eight bytes are fixed, and ten where there is a third count.
 fn header_length(format: Format, header: Header) -> usize
     ensures { λ r. ⌜ r ≡ length (headerLine format header) ⌝ }
 {
-    let counts = digit_count(header.variables) + digit_count(header.clauses) + 2;
-    header_around(format, header.third) + counts + 1
+    let counts = digit_count(header.variables) + digit_count(header.clauses);
+    match format {
+        Format::Plain => counts + 8,
+        _ => counts + digit_count(header.third) + 10,
+    }
 }
 
 fn put_header(out: &mut [u8], format: Format, header: Header) -> usize
     requires { ⌜ length (headerLine format header) ≤ length (now out) ⌝ }
-    ensures { λ r. ⌜ Puts 0 (headerLine format header) (now (out .entry)) (now (out .exit)) r ⌝ }
+    ensures { λ r. ⌜ PutAt 0 (headerLine format header) (now (out .entry)) (now (out .exit)) r ⌝ }
 {
-    let past_word = put_word(out, 0, format);
-    let past_variables = put_count(out, past_word, header.variables);
-    let past_clauses = put_count(out, past_variables, header.clauses);
+    let past_start = put_start(out, format);
+    let past_variables = put_digits_after(out, past_start, b' ', header.variables);
+    let past_clauses = put_digits_after(out, past_variables, b' ', header.clauses);
     let past = put_third(out, past_clauses, format, header.third);
-    put_bytes(out, past, b"\n")
+    out[past] = b'\n';
+    past + 1
 }
 
 // The line of a header.

@@ -1,54 +1,99 @@
--- `writer::put_header` meets its contract: five pieces, one after the other. Assumes nothing.
+-- `writer::put_header` meets its contract: one piece after the other. Assumes nothing.
+use Prim.Native.Nat.{ℕ, _+_, _≤_}
+use mathlib.Core.List.{List, _++_}
+use mathlib.Core.Path.{ap}
 use native.Mathlib.Omega.{arith}
-use Rattle.writer.proofs.Pieces.{puts-on, puts-long}
-use Rattle.writer.proofs.Lines.{header-long, puts-header}
 use borrow.Author.Needs.{needs}
+use lib.ListN.{length, length-append, length-set}
+use Rattle.dimacs.specs.Bytes.{bytes}
+use Rattle.dimacs.specs.Writing.{thirdDigits}
+use Rattle.writer.specs.Lines.{headerStart, headerCount}
+use Rattle.writer.proofs.Pieces.{PutBefore, put-one, put-then, put-before, then-whole}
+use Rattle.writer.proofs.Lines.{header-put, header-to-come}
 use Rattle.writer.proofs.put_header.Statement.{statement}
 use Rattle.writer.proofs.put_header.Tie as tie
 
-put-word-requires : tie.Need-put-word-requires
-put-word-requires c κs = omega (arith, c .before .before .pre, header-long (c .before .before .args .format) (c .before .before .args .header))
+-- The pieces of the line.
+abbrev word : tie.Start → List ℕ
+word s = headerStart (s .args .format)
 
-put-count-requires : tie.Need-put-count-requires
-put-count-requires c κs = let w = c .before .before .before .put-word .ensures in
-    omega (arith, c .before .before .before .before .before .before .pre, header-long (c .before .before .before .before .before .before .args .format) (c .before .before .before .before .before .before .args .header), w .past, puts-long w)
+abbrev variables : tie.Start → List ℕ
+variables s = headerCount (s .args .header .variables)
 
-put-count-requires-2 : tie.Need-put-count-requires-2
-put-count-requires-2 c κs = let w = c .before .before .before .before .before .before .before .put-word .ensures in
-    let v = c .before .before .before .put-count .ensures in
-    omega (arith, c .before .before .before .before .before .before .before .before .before .before .pre, header-long (c .before .before .before .before .before .before .before .before .before .before .args .format) (c .before .before .before .before .before .before .before .before .before .before .args .header), w .past, puts-long w, v .past, puts-long v)
+abbrev clauses : tie.Start → List ℕ
+clauses s = headerCount (s .args .header .clauses)
+
+abbrev third : tie.Start → List ℕ
+third s = thirdDigits (s .args .format) (s .args .header .third)
+
+room : (s : tie.Start) → 0 + length (word s ++ (variables s ++ (clauses s ++ (third s ++ bytes "\n")))) ≤ length (s .args .out .now)
+room s = omega (arith, s .pre, ap length (header-to-come (s .args .format) (s .args .header)))
+
+put-start-requires : tie.Need-put-start-requires
+put-start-requires c κs =
+    let s = c .before .before in
+    omega (arith, room s, length-append (word s) (variables s ++ (clauses s ++ (third s ++ bytes "\n"))))
+
+-- From behind each piece: the line stands up to there, and the rest is to come.
+abbrev at-start : tie.After-put-start → tie.Start
+at-start c = c .before .before .before
+
+past-word : (c : tie.After-put-start) → let s = at-start c in PutBefore (variables s ++ (clauses s ++ (third s ++ bytes "\n"))) 0 (word s) (s .args .out .now) (c .put-start .last .0) (c .put-start .result)
+past-word c = put-before (c .put-start .ensures) _ (room (at-start c))
+
+put-digits-after-requires : tie.Need-put-digits-after-requires
+put-digits-after-requires c κs = search needs
+
+abbrev at-word : tie.After-put-digits-after → tie.After-put-start
+at-word c = c .before .before .before .before
+
+past-variables : (c : tie.After-put-digits-after) → let s = at-start (at-word c) in PutBefore (clauses s ++ (third s ++ bytes "\n")) 0 (word s ++ variables s) (s .args .out .now) (c .put-digits-after .last .0) (c .put-digits-after .result)
+past-variables c = let s = at-start (at-word c) in then-whole (variables s) (clauses s ++ (third s ++ bytes "\n")) (past-word (at-word c)) (c .put-digits-after .ensures)
+
+put-digits-after-requires-2 : tie.Need-put-digits-after-requires-2
+put-digits-after-requires-2 c κs = search needs
+
+abbrev at-variables : tie.After-put-digits-after2 → tie.After-put-digits-after
+at-variables c = c .before .before .before .before
+
+past-clauses : (c : tie.After-put-digits-after2) → let s = at-start (at-word (at-variables c)) in PutBefore (third s ++ bytes "\n") 0 (word s ++ variables s ++ clauses s) (s .args .out .now) (c .put-digits-after2 .last .0) (c .put-digits-after2 .result)
+past-clauses c = let s = at-start (at-word (at-variables c)) in then-whole (clauses s) (third s ++ bytes "\n") (past-variables (at-variables c)) (c .put-digits-after2 .ensures)
 
 put-third-requires : tie.Need-put-third-requires
-put-third-requires c κs = let w = c .before .before .before .before .before .before .before .before .before .before .before .put-word .ensures in
-    let v = c .before .before .before .before .before .before .before .put-count .ensures in
-    let n = c .before .before .before .put-count2 .ensures in
-    omega (arith, c .before .before .before .before .before .before .before .before .before .before .before .before .before .before .pre, header-long (c .before .before .before .before .before .before .before .before .before .before .before .before .before .before .args .format) (c .before .before .before .before .before .before .before .before .before .before .before .before .before .before .args .header), w .past, puts-long w, v .past, puts-long v, n .past, puts-long n)
+put-third-requires c κs = search needs
 
-slice-aggregate-put-bytes : tie.Need-slice-aggregate-put-bytes
-slice-aggregate-put-bytes c = search needs
+abbrev at-clauses : tie.After-put-third → tie.After-put-digits-after2
+at-clauses c = c .before .before .before .before
 
-put-bytes-requires : tie.Need-put-bytes-requires
-put-bytes-requires c κs = let w = c .before .before .before .before .before .before .before .before .before .before .before .before .before .before .before .before .put-word .ensures in
-    let v = c .before .before .before .before .before .before .before .before .before .before .before .before .put-count .ensures in
-    let n = c .before .before .before .before .before .before .before .before .put-count2 .ensures in
-    let t = c .before .before .before .before .put-third .ensures in
-    omega (arith, c .before .before .before .before .before .before .before .before .before .before .before .before .before .before .before .before .before .before .before .pre, header-long (c .before .before .before .before .before .before .before .before .before .before .before .before .before .before .before .before .before .before .before .args .format) (c .before .before .before .before .before .before .before .before .before .before .before .before .before .before .before .before .before .before .before .args .header), w .past, puts-long w, v .past, puts-long v, n .past, puts-long n, t .past, puts-long t)
+past-third : (c : tie.After-put-third) → let s = at-start (at-word (at-variables (at-clauses c))) in PutBefore (bytes "\n") 0 (word s ++ variables s ++ clauses s ++ third s) (s .args .out .now) (c .put-third .last .0) (c .put-third .result)
+past-third c = then-whole (third (at-start (at-word (at-variables (at-clauses c))))) (bytes "\n") (past-clauses (at-clauses c)) (c .put-third .ensures)
+
+slice-write-out : tie.Need-slice-write-out
+slice-write-out c = omega (arith, past-third (c .before .before))
+
+add-result : tie.Need-add-result
+add-result c =
+    let at-third = c .before .before in
+    omega (arith, past-third at-third, at-start (at-word (at-variables (at-clauses at-third))) .good)
 
 same-length : tie.Need-same-length
-same-length c = search needs
+same-length c = simp length-set (past-third (c .before .before) .long)
 
 returns : tie.Need-returns
-returns c = puts-header (c .before .before .before .before .before .before .before .before .before .before .before .before .before .before .before .before .before .before .before .before .before .before .args .format) (c .before .before .before .before .before .before .before .before .before .before .before .before .before .before .before .before .before .before .before .before .before .before .args .header) (puts-on (puts-on (puts-on (puts-on (c .before .before .before .before .before .before .before .before .before .before .before .before .before .before .before .before .before .before .before .put-word .ensures) (c .before .before .before .before .before .before .before .before .before .before .before .before .before .before .before .put-count .ensures)) (c .before .before .before .before .before .before .before .before .before .before .before .put-count2 .ensures)) (c .before .before .before .before .before .before .before .put-third .ensures)) (c .before .before .put-bytes .ensures))
+returns c =
+    let at-third = c .before .before in
+    let a = at-start (at-word (at-variables (at-clauses at-third))) .args in
+    rw (header-put (a .format) (a .header)) (put-then (past-third at-third .put) (put-one (at-third .put-third .result) 10 (at-third .put-third .last .0)))
 
 pub put-header-spec : {M : Type 1} → statement M
 put-header-spec =
     tie.close
     (tie.spec
-    put-word-requires
-    put-count-requires
-    put-count-requires-2
+    put-start-requires
+    put-digits-after-requires
+    put-digits-after-requires-2
     put-third-requires
-    slice-aggregate-put-bytes
-    put-bytes-requires
+    slice-write-out
+    add-result
     same-length
     returns)
