@@ -22,7 +22,7 @@ use Rattle.dimacs.specs.declared.Header.{Header}
 use Rattle.dimacs.specs.declared.Refusal.{Refusal}
 use Rattle.dimacs.proofs.Format.{the-type}
 use Rattle.dimacs.proofs.Tests.{chosen}
-use Rattle.decimal.specs.Pieces.{PutAt}
+use Rattle.decimals.specs.Pieces.{PutAt}
 use Rattle.writer.specs.Lines.{headerStart, headerCount}
 use Rattle.writer.specs.Answers.{Writes, writtenOf, bytesWritten, lineLength}
 use Rattle.writer.specs.declared.Written.{Written}

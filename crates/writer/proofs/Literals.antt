@@ -12,7 +12,7 @@ use lib.Seq.{take-suc, take-all}
 use Rattle.dimacs.specs.Bytes.{bytes}
 use Rattle.dimacs.specs.Names.{ceiling}
 use Rattle.dimacs.specs.Writing.{signedDigits, item, items, isLiteral}
-use Rattle.decimal.specs.Pieces.{PutAt}
+use Rattle.decimals.specs.Pieces.{PutAt}
 use Rattle.writer.proofs.Pieces.{put-keeps-length, put-nothing, put-then, put-before}
 
 -- The two tests of a literal.

@@ -1,15 +1,15 @@
 -- Pieces of a line put one after the other. Assumes nothing.
-use Prim.Native.Nat.{ℕ, suc, _+_, _≤_}
+use Prim.Native.Nat.{ℕ, suc, _+_, _≤_, _<_}
 use mathlib.Core.List.{List, [], _∷_, _++_}
 use mathlib.Core.Path.{_≡_, refl, ap, sym, _∙_}
 use native.Mathlib.Numerals.{add-one}
 use native.Mathlib.Omega.{arith}
 use lib.Dec.{leb}
-use lib.ListN.{length, set, length-append}
-use lib.Seq.{sets, length-sets}
+use lib.ListN.{length, getD, set, take, length-append}
+use lib.Seq.{sets, length-sets, take-suc, take-all, length-take-le}
 use Rattle.dimacs.proofs.Tests.{chosen}
-use Rattle.decimal.specs.Pieces.{PutAt, ifRoom}
-use Rattle.decimal.proofs.Pieces.{puts-whole}
+use Rattle.decimals.specs.Pieces.{PutAt, ifRoom}
+use Rattle.decimals.proofs.Pieces.{puts-whole}
 
 sets-append : {A : Type 0} (a b l : List A) (at : ℕ) → sets l at (a ++ b) ≡ sets (sets l at a) (at + length a) b
 sets-append [] b l at = ap (λ k. sets l k b) (omega arith)
@@ -68,7 +68,24 @@ put-one at a old = record { past = refl; output = refl }
 pub put-two : (at a b : ℕ) (old : List ℕ) → PutAt at (a ∷ b ∷ []) old (set (set old at a) (at + 1) b) (at + 2)
 put-two at a b old = record { past = refl; output = rw (add-one at) }
 
-pub put-three : (at a b c : ℕ) (old : List ℕ) → PutAt at (a ∷ b ∷ c ∷ []) old (set (set (set old at a) (at + 1) b) (at + 2) c) (at + 3)
-put-three at a b c old =
-    let e : at + 2 ≡ suc (suc at) = omega arith in
-    record { past = refl; output = rw (add-one at, e) }
+-- The first bytes of a piece stand at the output's front.
+pub record Copied (piece old out : List ℕ) (i : ℕ) : Type 0 where
+  pub within : i ≤ length piece
+  pub output : out ≡ sets old 0 (take i piece)
+
+pub copied-more : {piece old out : List ℕ} {i : ℕ} → Copied piece old out i → i < length piece → Copied piece old (set out i (getD piece i 0)) (i + 1)
+copied-more {piece} {old} {out} {i} h l =
+    let k = length-take-le i piece (h .within) in
+    record {
+      within = omega arith;
+      output =
+          rw (add-one, take-suc piece i 0 l)
+          (ap (λ o. set o i (getD piece i 0)) (h .output) ∙ sym (sets-append (take i piece) (getD piece i 0 ∷ []) old 0 ∙ ap (λ n. set (sets old 0 (take i piece)) n (getD piece i 0)) (omega (arith, k))));
+    }
+
+pub copied-all : {piece old out : List ℕ} {i : ℕ} → Copied piece old out i → length piece ≤ i → PutAt 0 piece old out i
+copied-all {piece} {old} {out} {i} h l =
+    record { past = omega (arith, h .within); output = h .output ∙ ap (sets old 0) (take-all i piece l) }
+
+pub copied-keeps-length : {piece old out : List ℕ} {i : ℕ} → Copied piece old out i → length out ≡ length old
+copied-keeps-length {piece} {old} {out} {i} h = ap length (h .output) ∙ length-sets old 0 (take i piece)

@@ -7,15 +7,15 @@ ghost use lib.ListN.{length};
 ghost use Rattle.dimacs.specs.Names.{callNumbered};
 ghost use Rattle.dimacs.specs.Tokens.{run};
 ghost use Rattle.dimacs.specs.Writing.{items, lead, thirdDigits, isLiteral, headerLine, clauseLine, writeHeader, writeClause};
-ghost use Rattle.decimal.specs.Pieces.{PutAt, ifRoom};
+ghost use Rattle.decimals.specs.Pieces.{PutAt, ifRoom};
 ghost use Rattle.writer.specs.Lines.{headerStart};
 ghost use Rattle.writer.specs.Answers.{Writes};
 ghost use Rattle.writer.specs.declared.Written.the-variants.{Refused};
-use decimal::digit_count;
-use decimal::literal_length;
-use decimal::put_digits;
-use decimal::put_digits_after;
-use decimal::put_literal;
+use decimals::digit_count;
+use decimals::literal_length;
+use decimals::put_digits;
+use decimals::put_digits_after;
+use decimals::put_literal;
 use dimacs::CEILING;
 use dimacs::Format;
 use dimacs::Header;
@@ -153,29 +153,29 @@ pub fn write_clause(format: Format, extra: u64, lits: &[i32], out: &mut [u8]) ->
     unwritten(OUTPUT_TOO_SHORT, 0)
 }
 
+// Bytes at the output's front.
+fn put_bytes(out: &mut [u8], piece: &[u8]) -> usize
+    requires { ⌜ length (now piece) ≤ length (now out) ⌝ }
+    ensures { λ r. ⌜ PutAt 0 (now (piece .entry)) (now (out .entry)) (now (out .exit)) r ⌝ }
+{
+    let mut i: usize = 0;
+    while i < piece.len() {
+        out[i] = piece[i];
+        i += 1;
+    }
+    i
+}
+
 // What a header begins with, up to its word.
 fn put_start(out: &mut [u8], format: Format) -> usize
     requires { ⌜ length (headerStart format) ≤ length (now out) ⌝ }
     ensures { λ r. ⌜ PutAt 0 (headerStart format) (now (out .entry)) (now (out .exit)) r ⌝ }
 {
-    out[0] = b'p';
-    out[1] = b' ';
-    let mut past: usize = 2;
     match format {
-        Format::Plain => {}
-        Format::Weighted => {
-            out[2] = b'w';
-            past = 3;
-        }
-        Format::Grouped => {
-            out[2] = b'g';
-            past = 3;
-        }
+        Format::Plain => put_bytes(out, b"p cnf"),
+        Format::Weighted => put_bytes(out, b"p wcnf"),
+        Format::Grouped => put_bytes(out, b"p gcnf"),
     }
-    out[past] = b'c';
-    out[past + 1] = b'n';
-    out[past + 2] = b'f';
-    past + 3
 }
 
 // The third count, if the format has one.

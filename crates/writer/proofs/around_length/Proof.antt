@@ -1,7 +1,7 @@
 -- `writer::around_length` meets its contract: by format. Assumes nothing.
 use native.Mathlib.Omega.{arith}
 use borrow.Author.Needs.{needs}
-use Rattle.decimal.proofs.Digits.{digits-bounded}
+use Rattle.decimals.proofs.Digits.{digits-bounded}
 use Rattle.writer.proofs.Lines.{weight-long, group-long}
 use Rattle.writer.proofs.around_length.Statement.{statement}
 use Rattle.writer.proofs.around_length.Tie as tie

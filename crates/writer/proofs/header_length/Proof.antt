@@ -5,7 +5,7 @@ use native.Mathlib.Omega.{arith}
 use borrow.Author.Needs.{needs}
 use lib.ListN.{length}
 use Rattle.dimacs.specs.Writing.{digits}
-use Rattle.decimal.proofs.Digits.{digits-bounded}
+use Rattle.decimals.proofs.Digits.{digits-bounded}
 use Rattle.writer.proofs.Lines.{plain-long, third-long}
 use Rattle.writer.proofs.header_length.Statement.{statement}
 use Rattle.writer.proofs.header_length.Tie as tie

@@ -5,7 +5,7 @@ use mathlib.Core.Path.{_≡_, refl, sym, _∙_}
 use native.Mathlib.Omega.{arith}
 use borrow.Author.Tests.{le-leb, lt-leb}
 use lib.ListN.{length}
-use Rattle.decimal.specs.Pieces.{PutAt, ifRoom}
+use Rattle.decimals.specs.Pieces.{PutAt, ifRoom}
 
 module _ (at : ℕ) (piece old : List ℕ) where
   whole : at + length piece ≤ length old → ifRoom at piece old ≡ piece

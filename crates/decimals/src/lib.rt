@@ -7,7 +7,7 @@ ghost use Prim.Native.Nat.{_-_, _≤_};
 ghost use lib.ListN.{length};
 ghost use lib.Seq.{sets};
 ghost use Rattle.dimacs.specs.Writing.{digits, signedDigits};
-ghost use Rattle.decimal.specs.Pieces.{PutAt, ifRoom};
+ghost use Rattle.decimals.specs.Pieces.{PutAt, ifRoom};
 use dimacs::magnitude;
 
 // How many digits a number has.

@@ -1,8 +1,8 @@
--- `decimal::digit_count` meets its contract: each turn counts the last digit of what is left. Assumes nothing.
+-- `decimals::digit_count` meets its contract: each turn counts the last digit of what is left. Assumes nothing.
 use native.Mathlib.Omega.{arith}
-use Rattle.decimal.proofs.Digits.{Tallied, tallied-more, tallied-all, digits-bounded}
-use Rattle.decimal.proofs.digit_count.Statement.{statement}
-use Rattle.decimal.proofs.digit_count.Tie as tie
+use Rattle.decimals.proofs.Digits.{Tallied, tallied-more, tallied-all, digits-bounded}
+use Rattle.decimals.proofs.digit_count.Statement.{statement}
+use Rattle.decimals.proofs.digit_count.Tie as tie
 
 abbrev Inv-loop : tie.InvT-loop
 Inv-loop n left₀ count₀ left count = Tallied n left count

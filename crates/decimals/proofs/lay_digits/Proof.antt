@@ -1,12 +1,12 @@
--- `decimal::lay_digits` meets its contract: each turn stores the last digit of what is left, and the first digit comes last. Assumes nothing.
+-- `decimals::lay_digits` meets its contract: each turn stores the last digit of what is left, and the first digit comes last. Assumes nothing.
 use Prim.Native.Nat.{_-_, _/_}
 use mathlib.Core.Path.{refl, _∙_}
 use native.Mathlib.Omega.{arith}
 use lib.ListN.{length, length-set}
 use Rattle.dimacs.specs.Writing.{digits}
-use Rattle.decimal.proofs.Digits.{Behind, behind-more, behind-all, digits-bounded, more-long}
-use Rattle.decimal.proofs.lay_digits.Statement.{statement}
-use Rattle.decimal.proofs.lay_digits.Tie as tie
+use Rattle.decimals.proofs.Digits.{Behind, behind-more, behind-all, digits-bounded, more-long}
+use Rattle.decimals.proofs.lay_digits.Statement.{statement}
+use Rattle.decimals.proofs.lay_digits.Tie as tie
 
 abbrev Inv-loop : tie.InvT-loop
 Inv-loop out₀ past n left₀ i₀ out left i = Behind (past - length (digits n)) n out₀ out left i

@@ -1,10 +1,10 @@
--- `decimal::put_literal` meets its contract: a literal is its sign and its size. Assumes nothing.
+-- `decimals::put_literal` meets its contract: a literal is its sign and its size. Assumes nothing.
 use borrow.Author.Needs.{needs}
 use mir.Syntax.{w32}
 use mir.ValLaws.{toZ-ofZ}
-use Rattle.decimal.proofs.Literals.{negative-is, positive-is}
-use Rattle.decimal.proofs.put_literal.Statement.{statement}
-use Rattle.decimal.proofs.put_literal.Tie as tie
+use Rattle.decimals.proofs.Literals.{negative-is, positive-is}
+use Rattle.decimals.proofs.put_literal.Statement.{statement}
+use Rattle.decimals.proofs.put_literal.Tie as tie
 
 magnitude-requires : tie.Need-magnitude-requires
 magnitude-requires c κs = search needs

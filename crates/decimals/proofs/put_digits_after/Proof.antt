@@ -1,4 +1,4 @@
--- `decimal::put_digits_after` meets its contract: with room the byte stands at the place, and the digits up to where the piece ends. Assumes nothing.
+-- `decimals::put_digits_after` meets its contract: with room the byte stands at the place, and the digits up to where the piece ends. Assumes nothing.
 use Prim.Native.Nat.{ℕ, _+_, _≤_}
 use mathlib.Core.List.{List, _∷_}
 use mathlib.Core.Path.{_≡_, ap, _∙_}
@@ -7,10 +7,10 @@ use borrow.Author.Needs.{needs}
 use lib.ListN.{length, set, length-set}
 use lib.Seq.{sets}
 use Rattle.dimacs.specs.Writing.{digits}
-use Rattle.decimal.proofs.Digits.{digits-bounded}
-use Rattle.decimal.proofs.Pieces.{room-puts, no-room-puts-none}
-use Rattle.decimal.proofs.put_digits_after.Statement.{statement}
-use Rattle.decimal.proofs.put_digits_after.Tie as tie
+use Rattle.decimals.proofs.Digits.{digits-bounded}
+use Rattle.decimals.proofs.Pieces.{room-puts, no-room-puts-none}
+use Rattle.decimals.proofs.put_digits_after.Statement.{statement}
+use Rattle.decimals.proofs.put_digits_after.Tie as tie
 
 digit-count-requires : tie.Need-digit-count-requires
 digit-count-requires c κs = search needs

@@ -1,4 +1,4 @@
--- `decimal::put_digits` meets its contract: with room the digits end as far from the place as they are long. Assumes nothing.
+-- `decimals::put_digits` meets its contract: with room the digits end as far from the place as they are long. Assumes nothing.
 use Prim.Native.Nat.{_+_, _≤_}
 use mathlib.Core.Path.{ap, _∙_}
 use native.Mathlib.Omega.{arith}
@@ -6,10 +6,10 @@ use borrow.Author.Needs.{needs}
 use lib.ListN.{length}
 use lib.Seq.{sets}
 use Rattle.dimacs.specs.Writing.{digits}
-use Rattle.decimal.proofs.Digits.{digits-bounded}
-use Rattle.decimal.proofs.Pieces.{room-puts, no-room-puts-none}
-use Rattle.decimal.proofs.put_digits.Statement.{statement}
-use Rattle.decimal.proofs.put_digits.Tie as tie
+use Rattle.decimals.proofs.Digits.{digits-bounded}
+use Rattle.decimals.proofs.Pieces.{room-puts, no-room-puts-none}
+use Rattle.decimals.proofs.put_digits.Statement.{statement}
+use Rattle.decimals.proofs.put_digits.Tie as tie
 
 digit-count-requires : tie.Need-digit-count-requires
 digit-count-requires c κs = search needs

@@ -1,12 +1,12 @@
--- `decimal::literal_length` meets its contract: a minus is one byte more. Assumes nothing.
+-- `decimals::literal_length` meets its contract: a minus is one byte more. Assumes nothing.
 use native.Mathlib.Omega.{arith}
 use mir.Syntax.{w32}
 use mir.ValLaws.{toZ-ofZ}
 use borrow.Author.Needs.{needs}
-use Rattle.decimal.proofs.Digits.{digits-bounded}
-use Rattle.decimal.proofs.Literals.{negative-long, positive-long}
-use Rattle.decimal.proofs.literal_length.Statement.{statement}
-use Rattle.decimal.proofs.literal_length.Tie as tie
+use Rattle.decimals.proofs.Digits.{digits-bounded}
+use Rattle.decimals.proofs.Literals.{negative-long, positive-long}
+use Rattle.decimals.proofs.literal_length.Statement.{statement}
+use Rattle.decimals.proofs.literal_length.Tie as tie
 
 magnitude-requires : tie.Need-magnitude-requires
 magnitude-requires c κs = search needs
