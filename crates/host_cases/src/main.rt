@@ -25,6 +25,31 @@ fn case(format: u32, mode: u32, text: &mut [u8]) -> bool {
     true
 }
 
+// What a frame says before its text.
+struct Head {
+    format: u32,
+    mode: u32,
+    length: usize,
+}
+
+fn head_of(frame: &[u8]) -> Head {
+    Head {
+        format: frame::u32_at(frame, 0),
+        mode: frame::u32_at(frame, 4),
+        length: frame::u32_at(frame, 8) as usize,
+    }
+}
+
+// The rest of a case, and whether another may follow.
+fn framed(head: Head) -> bool {
+    let length = head.length;
+    let mut text = io::buffer();
+    if text.len() < length {
+        return cut();
+    }
+    case(head.format, head.mode, &mut text[..length])
+}
+
 // One case, and whether another may follow.
 fn one() -> bool {
     let mut frame = [0u8; 12];
@@ -35,14 +60,7 @@ fn one() -> bool {
     if got < 12 {
         return cut();
     }
-    let format = frame::le32(frame[0], frame[1], frame[2], frame[3]);
-    let mode = frame::le32(frame[4], frame[5], frame[6], frame[7]);
-    let length = frame::le32(frame[8], frame[9], frame[10], frame[11]) as usize;
-    let mut text = io::buffer();
-    if text.len() < length {
-        return cut();
-    }
-    case(format, mode, &mut text[..length])
+    framed(head_of(&frame))
 }
 
 fn main() {

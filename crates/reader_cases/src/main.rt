@@ -105,6 +105,38 @@ fn text_lines(text: &mut [u8], format: u8, mode: u8, lits: &mut [i32]) -> bool {
     true
 }
 
+// What a frame says before its text.
+struct Head {
+    format: u8,
+    mode: u8,
+    room: usize,
+    length: usize,
+}
+
+fn head_of(frame: &[u8]) -> Head {
+    Head {
+        format: frame::u8_at(frame, 0),
+        mode: frame::u8_at(frame, 1),
+        room: frame::u32_at(frame, 2) as usize,
+        length: frame::u32_at(frame, 6) as usize,
+    }
+}
+
+// The rest of a case, and whether another may follow.
+fn framed(head: Head, text: &mut [u8], lits: &mut [i32]) -> bool {
+    let length = head.length;
+    if text.len() < length {
+        return console::long(length);
+    }
+    let room = frame::smaller(head.room, lits.len());
+    text_lines(
+        &mut text[..length],
+        head.format,
+        head.mode,
+        &mut lits[..room],
+    )
+}
+
 // One case, and whether another may follow.
 fn one(case: u64, text: &mut [u8], lits: &mut [i32]) -> bool {
     let mut frame = [0u8; 10];
@@ -116,13 +148,7 @@ fn one(case: u64, text: &mut [u8], lits: &mut [i32]) -> bool {
     if got < 10 {
         return cut();
     }
-    let room = frame::le32(frame[2], frame[3], frame[4], frame[5]) as usize;
-    let length = frame::le32(frame[6], frame[7], frame[8], frame[9]) as usize;
-    if text.len() < length {
-        return console::long(length);
-    }
-    let most = frame::smaller(room, lits.len());
-    text_lines(&mut text[..length], frame[0], frame[1], &mut lits[..most])
+    framed(head_of(&frame), text, lits)
 }
 
 fn cases(text: &mut [u8], lits: &mut [i32]) {

@@ -95,9 +95,7 @@ fn answers(text: &[u8], at: usize, limit: u64) {
 fn next_number() -> u64 {
     let mut b = [0u8; 8];
     io::read_full(STDIN_FILENO, &mut b);
-    let low = frame::le32(b[0], b[1], b[2], b[3]);
-    let high = frame::le32(b[4], b[5], b[6], b[7]);
-    frame::le64(low, high)
+    frame::u64_at(&b, 0)
 }
 
 fn size(b: u8) -> usize
@@ -119,7 +117,7 @@ fn one() -> bool {
     if io::read_full(STDIN_FILENO, &mut first) < 1 {
         return false;
     }
-    let n = size(first[0]);
+    let n = size(frame::u8_at(&first, 0));
     let mut text = io::buffer();
     case(&mut text[..n]);
     true

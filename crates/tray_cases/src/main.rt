@@ -3,6 +3,15 @@
 // First comes the area: its length in four bytes, and its bytes, at most 65,536. Then come calls, each a byte and what follows it:
 // 0 puts (format and mode of one byte each, start and length of eight), 1 takes a turn (how much of the area and how much of the literal buffer
 // is lent, of four bytes each), 2 withdraws (a ticket of eight), 3 changes a byte of the area (an offset of four, and the byte).
+ghost use mathlib.Core.Path.{_≡_};
+ghost use mathlib.Core.Bool.{Bool};
+ghost use Prim.Native.Nat.{ℕ, _≤_};
+ghost use lib.ListN.{length};
+ghost use Rattle.formula.proofs.Runs.{CountFits};
+ghost use Rattle.clause.specs.declared.Next as clause;
+ghost use Rattle.service.specs.declared.Said as service;
+ghost use Rattle.service.specs.declared.Said.the-variants as saying;
+ghost use Rattle.tray.specs.declared.TurnAnswer.the-variants.{Told};
 use clause::Next;
 use console::clause_words;
 use console::number;
@@ -18,6 +27,98 @@ use tray::PutAnswer;
 use tray::Tray;
 use tray::TurnAnswer;
 use tray::WithdrawAnswer;
+
+// The most bytes that a call has after its kind.
+const LONGEST: usize = 18;
+
+// A text to be put.
+struct Put {
+    format: u8,
+    mode: u8,
+    start: usize,
+    length: usize,
+}
+
+// A call as the input has it, or none that can be made.
+enum Call {
+    Put(Put),
+    Turn { lent: usize, room: usize },
+    Withdraw(u64),
+    Change { at: usize, byte: u8 },
+    Nothing,
+}
+
+fn put_of(frame: &[u8]) -> Call {
+    Call::Put(Put {
+        format: frame::u8_at(frame, 0),
+        mode: frame::u8_at(frame, 1),
+        start: frame::u64_at(frame, 2) as usize,
+        length: frame::u64_at(frame, 10) as usize,
+    })
+}
+
+fn turn_of(frame: &[u8]) -> Call {
+    Call::Turn {
+        lent: frame::u32_at(frame, 0) as usize,
+        room: frame::u32_at(frame, 4) as usize,
+    }
+}
+
+fn change_of(frame: &[u8]) -> Call {
+    Call::Change {
+        at: frame::u32_at(frame, 0) as usize,
+        byte: frame::u8_at(frame, 4),
+    }
+}
+
+// Where the next call begins after one of no kind is not known.
+fn unknown() -> Call {
+    word(b"unknown\n");
+    Call::Nothing
+}
+
+// How many bytes follow the kind of a call.
+fn size(kind: u8) -> usize
+    ensures { λ r. ⌜ r ≤ 18 ⌝ }
+{
+    match kind {
+        0 => LONGEST,
+        1 => 8,
+        2 => 8,
+        3 => 5,
+        _ => 0,
+    }
+}
+
+// The call that these bytes are.
+fn call_of(kind: u8, frame: &[u8; LONGEST]) -> Call {
+    match kind {
+        0 => put_of(frame),
+        1 => turn_of(frame),
+        2 => Call::Withdraw(frame::u64_at(frame, 0)),
+        3 => change_of(frame),
+        _ => unknown(),
+    }
+}
+
+// The bytes that follow a kind, and the call that they are. One that the input's end cuts off is not made.
+fn call_of_kind(kind: u8) -> Call {
+    let mut frame = [0u8; LONGEST];
+    let n = size(kind);
+    if io::read_full(STDIN_FILENO, &mut frame[..n]) < n {
+        word(b"cut\n");
+        return Call::Nothing;
+    }
+    call_of(kind, &frame)
+}
+
+fn next_call() -> Call {
+    let mut kind = [0u8; 1];
+    if io::read_full(STDIN_FILENO, &mut kind) == 0 {
+        return Call::Nothing;
+    }
+    call_of_kind(frame::u8_at(&kind, 0))
+}
 
 // The number of a call's own refusal.
 fn call_refused(n: u8) {
@@ -36,10 +137,29 @@ fn front_format(tray: Tray) -> Format {
     }
 }
 
-fn turn_line(tray: Tray, area: &[u8], lits: &mut [i32]) -> Tray {
-    let format = front_format(tray);
-    let done = tray::turn(tray, area, lits);
-    let answer = done.answer;
+// An answer of the reader. A clause has no more literals than are lent.
+fn next_words(next: Next, format: Format, lits: &[i32])
+    requires { ⌜ CountFits (length (now lits)) next ⌝ }
+{
+    match next {
+        Next::Clause { extra, count } => clause_words(format, extra, &lits[..count]),
+        Next::Ended => word(b"end"),
+        Next::Refused { refusal, count } => refused_words(refusal, count, b"", b""),
+    }
+}
+
+fn said_words(said: Said, format: Format, lits: &[i32])
+    requires { ⌜ ((next : clause.Next) → said ≡ saying.Next next → CountFits (length (now lits)) next) ⌝ }
+{
+    match said {
+        Said::Opening(opening) => opening_words(opening, format, b"", b""),
+        Said::Next(next) => next_words(next, format, lits),
+    }
+}
+
+fn told_line(answer: TurnAnswer, format: Format, lits: &[i32])
+    requires { ⌜ ((ticket : ℕ) (said : service.Said) (last : Bool) (next : clause.Next) → answer ≡ Told ticket said last → said ≡ saying.Next next → CountFits (length (now lits)) next) ⌝ }
+{
     word(b"turn");
     match answer {
         TurnAnswer::Refused(n) => call_refused(n),
@@ -50,112 +170,57 @@ fn turn_line(tray: Tray, area: &[u8], lits: &mut [i32]) -> Tray {
         } => {
             number(ticket);
             word(b" ");
-            match said {
-                Said::Opening(opening) => opening_words(opening, format, b"", b""),
-                Said::Next(next) => match next {
-                    Next::Clause { extra, count } => clause_words(format, extra, &lits[..count]),
-                    Next::Ended => word(b"end"),
-                    Next::Refused { refusal, count } => refused_words(refusal, count, b"", b""),
-                },
-            }
+            said_words(said, format, lits);
         }
     }
     word(b"\n");
+}
+
+fn turn_line(tray: Tray, area: &[u8], lits: &mut [i32]) -> Tray {
+    let format = front_format(tray);
+    let done = tray::turn(tray, area, lits);
+    let answer = done.answer;
+    told_line(answer, format, lits);
     done.tray
 }
 
-fn put_line(tray: Tray, format: u8, mode: u8, start: usize, length: usize, area: &[u8]) -> Tray {
-    let done = tray::put(tray, format, mode, start, length, area);
-    let answer = done.answer;
+// A turn with no more of the area and of the buffer than is to be lent.
+fn lent_turn(tray: Tray, lent: usize, room: usize, area: &[u8], lits: &mut [i32]) -> Tray {
+    let most = frame::smaller(lent, area.len());
+    let count = frame::smaller(room, lits.len());
+    turn_line(tray, &area[..most], &mut lits[..count])
+}
+
+fn put_words(answer: PutAnswer) {
     word(b"put");
     match answer {
         PutAnswer::Refused(n) => call_refused(n),
         PutAnswer::Ticket(ticket) => number(ticket),
     }
     word(b"\n");
+}
+
+fn put_line(tray: Tray, put: Put, area: &[u8]) -> Tray {
+    let done = tray::put(tray, put.format, put.mode, put.start, put.length, area);
+    let answer = done.answer;
+    put_words(answer);
     done.tray
 }
 
-fn withdraw_line(tray: Tray, ticket: u64) -> Tray {
-    let done = tray::withdraw(tray, ticket);
-    let answer = done.answer;
+fn withdraw_words(answer: WithdrawAnswer) {
     word(b"withdraw");
     match answer {
         WithdrawAnswer::Refused(n) => call_refused(n),
         WithdrawAnswer::Withdrawn(ticket) => number(ticket),
     }
     word(b"\n");
+}
+
+fn withdraw_line(tray: Tray, ticket: u64) -> Tray {
+    let done = tray::withdraw(tray, ticket);
+    let answer = done.answer;
+    withdraw_words(answer);
     done.tray
-}
-
-// The tray after a call, and whether another call may follow.
-struct Called {
-    tray: Tray,
-    more: bool,
-}
-
-fn going(tray: Tray) -> Called {
-    Called { tray, more: true }
-}
-
-fn last(tray: Tray) -> Called {
-    Called { tray, more: false }
-}
-
-// A call that the input's end cuts off is the last.
-fn cut(tray: Tray) -> Called {
-    word(b"cut\n");
-    last(tray)
-}
-
-// So is one of no kind, since where the next begins is not known.
-fn unknown(tray: Tray) -> Called {
-    word(b"unknown\n");
-    last(tray)
-}
-
-fn put_call(tray: Tray, area: &[u8]) -> Called {
-    let mut call = [0u8; 18];
-    if io::read_full(STDIN_FILENO, &mut call) < 18 {
-        return cut(tray);
-    }
-    let start = frame::le64(
-        frame::le32(call[2], call[3], call[4], call[5]),
-        frame::le32(call[6], call[7], call[8], call[9]),
-    ) as usize;
-    let length = frame::le64(
-        frame::le32(call[10], call[11], call[12], call[13]),
-        frame::le32(call[14], call[15], call[16], call[17]),
-    ) as usize;
-    going(put_line(tray, call[0], call[1], start, length, area))
-}
-
-fn turn_call(tray: Tray, area: &[u8], lits: &mut [i32]) -> Called {
-    let mut call = [0u8; 8];
-    if io::read_full(STDIN_FILENO, &mut call) < 8 {
-        return cut(tray);
-    }
-    let lent = frame::smaller(
-        frame::le32(call[0], call[1], call[2], call[3]) as usize,
-        area.len(),
-    );
-    let room = frame::smaller(
-        frame::le32(call[4], call[5], call[6], call[7]) as usize,
-        lits.len(),
-    );
-    going(turn_line(tray, &area[..lent], &mut lits[..room]))
-}
-
-fn withdraw_call(tray: Tray) -> Called {
-    let mut call = [0u8; 8];
-    if io::read_full(STDIN_FILENO, &mut call) < 8 {
-        return cut(tray);
-    }
-    let ticket = frame::le64(
-        frame::le32(call[0], call[1], call[2], call[3]),
-        frame::le32(call[4], call[5], call[6], call[7]),
-    );
-    going(withdraw_line(tray, ticket))
 }
 
 // Beyond the area nothing happens.
@@ -165,43 +230,29 @@ fn change(area: &mut [u8], at: usize, byte: u8) {
     }
 }
 
-fn change_call(tray: Tray, area: &mut [u8]) -> Called {
-    let mut call = [0u8; 5];
-    if io::read_full(STDIN_FILENO, &mut call) < 5 {
-        return cut(tray);
-    }
-    change(
-        area,
-        frame::le32(call[0], call[1], call[2], call[3]) as usize,
-        call[4],
-    );
-    going(tray)
-}
-
-fn one(tray: Tray, area: &mut [u8], lits: &mut [i32]) -> Called {
-    let mut kind = [0u8; 1];
-    if io::read_full(STDIN_FILENO, &mut kind) == 0 {
-        return last(tray);
-    }
-    match kind[0] {
-        0 => put_call(tray, area),
-        1 => turn_call(tray, area, lits),
-        2 => withdraw_call(tray),
-        3 => change_call(tray, area),
-        _ => unknown(tray),
+fn made(tray: Tray, call: Call, area: &mut [u8], lits: &mut [i32]) -> Tray {
+    match call {
+        Call::Put(put) => put_line(tray, put, area),
+        Call::Turn { lent, room } => lent_turn(tray, lent, room, area, lits),
+        Call::Withdraw(ticket) => withdraw_line(tray, ticket),
+        Call::Change { at, byte } => {
+            change(area, at, byte);
+            tray
+        }
+        Call::Nothing => tray,
     }
 }
 
 fn calls(area: &mut [u8], lits: &mut [i32]) {
     let mut tray = tray::empty();
-    let mut made: u64 = 0;
-    while made < LARGEST {
-        let called = one(tray, area, lits);
-        if !called.more {
+    let mut count: u64 = 0;
+    while count < LARGEST {
+        let call = next_call();
+        if let Call::Nothing = call {
             return;
         }
-        tray = called.tray;
-        made += 1;
+        tray = made(tray, call, area, lits);
+        count += 1;
     }
 }
 
@@ -213,6 +264,14 @@ fn area_calls(area: &mut [u8], lits: &mut [i32]) {
     calls(area, lits)
 }
 
+// The same with an area of this length, if there is so much of it.
+fn sized_calls(length: usize, area: &mut [u8], lits: &mut [i32]) {
+    if area.len() < length {
+        return word(b"too long\n");
+    }
+    area_calls(&mut area[..length], lits)
+}
+
 fn main() {
     let mut area = io::large_buffer();
     let mut lits = [0i32; 4096];
@@ -220,9 +279,5 @@ fn main() {
     if io::read_full(STDIN_FILENO, &mut size) < 4 {
         return word(b"cut\n");
     }
-    let length = frame::le32(size[0], size[1], size[2], size[3]) as usize;
-    if area.len() < length {
-        return word(b"too long\n");
-    }
-    area_calls(&mut area[..length], &mut lits);
+    sized_calls(frame::u32_at(&size, 0) as usize, &mut area, &mut lits);
 }

@@ -5,7 +5,7 @@
 // a clause, and the first number its weight or group. Each call is answered by `case N` and `written LENGTH BYTES`, the bytes in hexadecimal, or by
 // `refused NUMBER PLACE 0`. A kind that is neither is refused as a format is that is none of the three.
 ghost use mathlib.Core.Path.{_≡_};
-ghost use Prim.Native.Nat.{_+_, _≤_};
+ghost use Prim.Native.Nat.{_≤_};
 ghost use lib.ListN.{length};
 ghost use Rattle.writer.specs.Answers.{lineLength};
 use console::cut;
@@ -14,6 +14,7 @@ use console::word;
 use dimacs::FORMAT_OR_MODE_UNKNOWN;
 use dimacs::Format;
 use dimacs::Header;
+use dimacs::Kind;
 use dimacs::LARGEST;
 use dimacs::Refusal;
 use libc::STDIN_FILENO;
@@ -83,10 +84,7 @@ fn refused(out: &[u8], r: Refusal) {
 fn unknown() -> Written
     ensures { λ r. ⌜ lineLength r ≡ 0 ⌝ }
 {
-    Written::Refused(Refusal {
-        number: FORMAT_OR_MODE_UNKNOWN,
-        place: 0,
-    })
+    Written::Refused(dimacs::refuse_call(FORMAT_OR_MODE_UNKNOWN, 0))
 }
 
 // The call of a kind, made.
@@ -113,12 +111,10 @@ fn of_kind(format: Format, call: Call, lits: &[i32], out: &mut [u8]) -> Written
 fn made(call: Call, lits: &[i32], out: &mut [u8]) -> Written
     ensures { λ r. ⌜ lineLength r ≤ length (now (out .entry)) ⌝ }
 {
-    let format = call.format;
-    match format {
-        0 => of_kind(Format::Plain, call, lits, out),
-        1 => of_kind(Format::Weighted, call, lits, out),
-        2 => of_kind(Format::Grouped, call, lits, out),
-        _ => unknown(),
+    match dimacs::kind_of(call.format, 0) {
+        Kind::Clauses(format, _) => of_kind(format, call, lits, out),
+        Kind::Log(_) => unknown(),
+        Kind::Unknown => unknown(),
     }
 }
 
@@ -131,32 +127,6 @@ fn answer(call: Call, lits: &[i32], out: &mut [u8]) {
     }
 }
 
-// The number of four bytes at a place of a frame.
-fn u32_at(head: &[u8], at: usize) -> u32
-    requires { ⌜ at + 4 ≤ length (now head) ⌝ }
-{
-    frame::le32(head[at], head[at + 1], head[at + 2], head[at + 3])
-}
-
-// The number of eight bytes at a place of a frame.
-fn u64_at(head: &[u8], at: usize) -> u64
-    requires { ⌜ at + 8 ≤ length (now head) ⌝ }
-{
-    frame::le64(u32_at(head, at), u32_at(head, at + 4))
-}
-
-fn call_of(head: &[u8]) -> Call
-    requires { ⌜ 30 ≤ length (now head) ⌝ }
-{
-    Call {
-        format: head[0],
-        kind: head[1],
-        first: u64_at(head, 6),
-        second: u64_at(head, 14),
-        third: u64_at(head, 22),
-    }
-}
-
 // The next literals of the input, and whether they came.
 fn literals(lits: &mut [i32]) -> bool {
     let mut i: usize = 0;
@@ -165,14 +135,14 @@ fn literals(lits: &mut [i32]) -> bool {
         if io::read_full(STDIN_FILENO, &mut b) < 4 {
             return false;
         }
-        lits[i] = frame::signed32(u32_at(&b, 0));
+        lits[i] = frame::signed32(frame::u32_at(&b, 0));
         i += 1;
     }
     true
 }
 
 // A call once its literals came, and whether they did.
-fn framed(call: Call, lits: &mut [i32], out: &mut [u8]) -> bool {
+fn called(call: Call, lits: &mut [i32], out: &mut [u8]) -> bool {
     if literals(lits) {
         answer(call, lits, out);
         return true;
@@ -180,10 +150,30 @@ fn framed(call: Call, lits: &mut [i32], out: &mut [u8]) -> bool {
     cut()
 }
 
+fn call_of(frame: &[u8]) -> Call {
+    Call {
+        format: frame::u8_at(frame, 0),
+        kind: frame::u8_at(frame, 1),
+        first: frame::u64_at(frame, 6),
+        second: frame::u64_at(frame, 14),
+        third: frame::u64_at(frame, 22),
+    }
+}
+
+// The call of a frame, its output and literals no longer than those lent, and whether another frame may follow.
+fn framed(frame: &[u8], lits: &mut [i32], out: &mut [u8]) -> bool {
+    let given = frame::u32_at(frame, 30) as usize;
+    if lits.len() < given {
+        return console::long(4 * given);
+    }
+    let lent = frame::smaller(frame::u32_at(frame, 2) as usize, out.len());
+    called(call_of(frame), &mut lits[..given], &mut out[..lent])
+}
+
 // One case, and whether another may follow.
 fn one(case: u64, lits: &mut [i32], out: &mut [u8]) -> bool {
-    let mut head = [0u8; HEAD];
-    let got = io::read_full(STDIN_FILENO, &mut head);
+    let mut frame = [0u8; HEAD];
+    let got = io::read_full(STDIN_FILENO, &mut frame);
     if got == 0 {
         return false;
     }
@@ -191,12 +181,7 @@ fn one(case: u64, lits: &mut [i32], out: &mut [u8]) -> bool {
     if got < HEAD {
         return cut();
     }
-    let lent = frame::smaller(u32_at(&head, 2) as usize, out.len());
-    let given = u32_at(&head, 30) as usize;
-    if lits.len() < given {
-        return console::long(4 * given);
-    }
-    framed(call_of(&head), &mut lits[..given], &mut out[..lent])
+    framed(&frame, lits, out)
 }
 
 fn cases(lits: &mut [i32], out: &mut [u8]) {

@@ -13,10 +13,12 @@ enum-known-verdict : tie.Need-enum-known-verdict
 enum-known-verdict c = search needs
 
 slice-reshare-prefix-accepted-lines : tie.Need-slice-reshare-prefix-accepted-lines
-slice-reshare-prefix-accepted-lines c = parses-fit (c .before .before .before .before .parse-log .ensures) (c .before .verdict .given .1)
+slice-reshare-prefix-accepted-lines c =
+    let at-verdict = c .before in
+    parses-fit (at-verdict .before .before .before .parse-log .ensures) (at-verdict .verdict .given .1)
 
 slice-aggregate-accepted-lines : tie.Need-slice-aggregate-accepted-lines
-slice-aggregate-accepted-lines c = sym (length-take-le _ _ (parses-fit (c .before .before .before .before .before .parse-log .ensures) (c .before .before .verdict .given .1)))
+slice-aggregate-accepted-lines c = sym (length-take-le _ _ (slice-reshare-prefix-accepted-lines (c .before)))
 
 accepted-lines-requires : tie.Need-accepted-lines-requires
 accepted-lines-requires c κs = search needs

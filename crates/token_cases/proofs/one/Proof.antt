@@ -15,8 +15,11 @@ read-full-requires c κs = search needs
 returns : tie.Need-returns
 returns c = search needs
 
-array-read-size : tie.Need-array-read-size
-array-read-size c = search needs
+slice-aggregate-u8-at : tie.Need-slice-aggregate-u8-at
+slice-aggregate-u8-at c = search needs
+
+u8-at-requires : tie.Need-u8-at-requires
+u8-at-requires c κs = search needs
 
 size-requires : tie.Need-size-requires
 size-requires c κs = search needs
@@ -43,7 +46,8 @@ one-spec =
     slice-aggregate-read-full
     read-full-requires
     returns
-    array-read-size
+    slice-aggregate-u8-at
+    u8-at-requires
     size-requires
     buffer-requires
     array-borrow-prefix-text

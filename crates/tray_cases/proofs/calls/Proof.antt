@@ -7,10 +7,10 @@ use Rattle.tray_cases.proofs.calls.Statement.{statement}
 use Rattle.tray_cases.proofs.calls.Tie as tie
 
 abbrev Inv-loop : tie.InvT-loop
-Inv-loop area₀ lits₀ tray₀ made₀ area lits tray made = (made ≤ 18446744073709551615) × (length area ≡ length area₀) × (length lits ≡ length lits₀)
+Inv-loop area₀ lits₀ tray₀ count₀ area lits tray count = (count ≤ 18446744073709551615) × (length area ≡ length area₀) × (length lits ≡ length lits₀)
 
 abbrev μ-loop : tie.MeasureT-loop
-μ-loop area₀ lits₀ tray₀ made₀ area lits tray made = 18446744073709551615 - made
+μ-loop area₀ lits₀ tray₀ count₀ area lits tray count = 18446744073709551615 - count
 
 empty-requires : tie.Need-empty-requires Inv-loop μ-loop
 empty-requires c κs = search needs
@@ -18,8 +18,11 @@ empty-requires c κs = search needs
 loop-holds : tie.Need-loop-holds Inv-loop μ-loop
 loop-holds c = search needs
 
-one-requires : tie.Need-one-requires Inv-loop μ-loop
-one-requires c κs = search needs
+next-call-requires : tie.Need-next-call-requires Inv-loop μ-loop
+next-call-requires c κs = search needs
+
+enum-told : tie.Need-enum-told Inv-loop μ-loop
+enum-told c = search needs
 
 same-length : tie.Need-same-length Inv-loop μ-loop
 same-length c = search needs
@@ -30,8 +33,11 @@ same-length-2 c = search needs
 returns : tie.Need-returns Inv-loop μ-loop
 returns c = search needs
 
-add-made : tie.Need-add-made Inv-loop μ-loop
-add-made c = search needs
+made-requires : tie.Need-made-requires Inv-loop μ-loop
+made-requires c κs = search needs
+
+add-count : tie.Need-add-count Inv-loop μ-loop
+add-count c = search needs
 
 loop-less : tie.Need-loop-less Inv-loop μ-loop
 loop-less c = search needs
@@ -56,11 +62,13 @@ calls-spec =
     μ-loop
     empty-requires
     loop-holds
-    one-requires
+    next-call-requires
+    enum-told
     same-length
     same-length-2
     returns
-    add-made
+    made-requires
+    add-count
     loop-less
     loop-again
     same-length-3

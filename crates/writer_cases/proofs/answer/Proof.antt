@@ -16,7 +16,11 @@ enum-known-n : tie.Need-enum-known-n
 enum-known-n c = search needs
 
 line-requires : tie.Need-line-requires
-line-requires c κs = omega (arith, ap lineLength (c .before .before .n .given .1), c .before .before .before .before .before .before .made .ensures)
+line-requires c κs =
+    let at-answer = c .before .before in
+    let at-match = at-answer .before in
+    let at-call = at-match .before .before .before in
+    omega (arith, ap lineLength (at-answer .n .given .1), at-call .made .ensures)
 
 enum-known-refusal : tie.Need-enum-known-refusal
 enum-known-refusal c = search needs

@@ -21,7 +21,12 @@ word-requires-2 : tie.Need-word-requires-2
 word-requires-2 c κs = search needs
 
 slice-aggregate-hex-word : tie.Need-slice-aggregate-hex-word
-slice-aggregate-hex-word c = sym (length-take-le _ (c .before .before .before .before .before .before .before .args .out .now) (c .before .before .before .before .before .before .before .pre))
+slice-aggregate-hex-word c =
+    let at-space = c .before in
+    let at-number = at-space .before .before in
+    let at-word = at-number .before in
+    let start = at-word .before .before .before in
+    sym (length-take-le _ (start .args .out .now) (start .pre))
 
 hex-word-requires : tie.Need-hex-word-requires
 hex-word-requires c κs = search needs

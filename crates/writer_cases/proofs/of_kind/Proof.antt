@@ -18,13 +18,21 @@ same-length : tie.Need-same-length
 same-length c = search needs
 
 returns : tie.Need-returns
-returns c = line-within (header-within (c .before .before .before .before .before .before .args .format) _ (length (c .before .before .before .before .before .before .args .out .now))) (c .before .before .write-header .ensures)
+returns c =
+    let at-header = c .before .before in
+    let at-kind = at-header .before .before in
+    let given = at-kind .before .before .args in
+    line-within (header-within (given .format) _ (length (given .out .now))) (at-header .write-header .ensures)
 
 same-length-2 : tie.Need-same-length-2
 same-length-2 c = search needs
 
 returns-2 : tie.Need-returns-2
-returns-2 c = line-within (clause-within (c .before .before .before .before .before .before .args .format) _ _ (length (c .before .before .before .before .before .before .args .out .now))) (c .before .before .write-clause .ensures)
+returns-2 c =
+    let at-clause = c .before .before in
+    let at-kind = at-clause .before .before in
+    let given = at-kind .before .before .args in
+    line-within (clause-within (given .format) _ _ (length (given .out .now))) (at-clause .write-clause .ensures)
 
 returns-3 : tie.Need-returns-3
 returns-3 c = search needs

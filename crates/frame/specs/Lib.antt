@@ -1,0 +1,2 @@
+-- What the bytes of a frame mean.
+pub mod Numbers

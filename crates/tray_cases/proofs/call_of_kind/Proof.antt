@@ -1,0 +1,47 @@
+-- `tray_cases::call_of_kind` lends no more of the frame than it has. Assumes nothing.
+use mathlib.Core.Path.{sym}
+use lib.Seq.{length-take-le}
+use borrow.Author.Needs.{needs}
+use Rattle.tray_cases.proofs.call_of_kind.Statement.{statement}
+use Rattle.tray_cases.proofs.call_of_kind.Tie as tie
+
+size-requires : tie.Need-size-requires
+size-requires c κs = search needs
+
+array-borrow-prefix-frame : tie.Need-array-borrow-prefix-frame
+array-borrow-prefix-frame c = search needs
+
+slice-aggregate-read-full : tie.Need-slice-aggregate-read-full
+slice-aggregate-read-full c = sym (length-take-le _ _ (c .before .size .ensures))
+
+read-full-requires : tie.Need-read-full-requires
+read-full-requires c κs = search needs
+
+slice-aggregate-word : tie.Need-slice-aggregate-word
+slice-aggregate-word c = search needs
+
+word-requires : tie.Need-word-requires
+word-requires c κs = search needs
+
+returns : tie.Need-returns
+returns c = search needs
+
+call-of-requires : tie.Need-call-of-requires
+call-of-requires c κs = search needs
+
+returns-2 : tie.Need-returns-2
+returns-2 c = search needs
+
+pub call-of-kind-spec : {M : Type 1} → statement M
+call-of-kind-spec =
+    tie.close
+    (tie.spec
+    size-requires
+    array-borrow-prefix-frame
+    slice-aggregate-read-full
+    read-full-requires
+    slice-aggregate-word
+    word-requires
+    returns
+    call-of-requires
+    returns-2)
