@@ -2,8 +2,10 @@
 //
 // Where that is not what was written, `differs` is printed.
 ghost use mathlib.Core.Path.{_≡_};
-ghost use Prim.Native.Nat.{_≤_};
+ghost use Prim.Native.Nat.{_+_, _≤_};
 ghost use lib.ListN.{length};
+ghost use Rattle.writer.specs.Answers.{lineLength};
+ghost use Rattle.formula.proofs.Runs.{CountFits};
 use clause::Next;
 use console::clause_line;
 use console::end_line;
@@ -36,25 +38,30 @@ fn compared(same: bool) {
     word(b"differs\n");
 }
 
-// Nothing was written at a place.
-fn unwritten(at: usize) -> usize
-    ensures { λ r. ⌜ r ≡ at ⌝ }
+// The place past a line that was written at a place, if one was.
+fn past_line(at: usize, answer: Written) -> usize
+    requires { ⌜ at + lineLength answer ≤ 18446744073709551615 ⌝ }
+    ensures { λ r. ⌜ r ≡ at + lineLength answer ⌝ }
 {
-    word(b"unwritten\n");
-    at
+    match answer {
+        Written::Line(n) => at + n,
+        Written::Refused(_) => {
+            word(b"unwritten\n");
+            at
+        }
+    }
 }
 
-// The header written at a place, and the place past it.
-fn put_header(text: &mut [u8], at: usize, f: Formula) -> usize
-    requires { ⌜ at ≤ length (now text) ⌝ }
+// The header written, if there is one, and the place past it.
+fn put_header(text: &mut [u8], f: Formula) -> usize
     ensures { λ r. ⌜ r ≤ length (now (text .entry)) ⌝ }
 {
-    let format = f.format;
-    let header = f.header;
-    match writer::write_header(format, header, &mut text[at..]) {
-        Written::Line(n) => at + n,
-        Written::Refused(_) => unwritten(at),
+    if f.headed {
+        let format = f.format;
+        let header = f.header;
+        return past_line(0, writer::write_header(format, header, text));
     }
+    0
 }
 
 // A clause written at a place, and the place past it.
@@ -62,10 +69,10 @@ fn put_clause(text: &mut [u8], at: usize, format: Format, extra: u64, lits: &[i3
     requires { ⌜ at ≤ length (now text) ⌝ }
     ensures { λ r. ⌜ r ≤ length (now (text .entry)) ⌝ }
 {
-    match writer::write_clause(format, extra, lits, &mut text[at..]) {
-        Written::Line(n) => at + n,
-        Written::Refused(_) => unwritten(at),
-    }
+    past_line(
+        at,
+        writer::write_clause(format, extra, lits, &mut text[at..]),
+    )
 }
 
 // Where the 0 stands that ends the clause at a place.
@@ -94,22 +101,12 @@ fn past(given: &[i32], end: usize) -> usize
     end
 }
 
-// The header written, if there is one, and the place past it.
-fn opening(text: &mut [u8], f: Formula) -> usize
-    ensures { λ r. ⌜ r ≤ length (now (text .entry)) ⌝ }
-{
-    if f.headed {
-        return put_header(text, 0, f);
-    }
-    0
-}
-
 // The whole formula written, and its length.
 fn written(text: &mut [u8], f: Formula, extras: &[u64], given: &[i32]) -> usize
     ensures { λ r. ⌜ r ≤ length (now (text .entry)) ⌝ }
 {
     let format = f.format;
-    let mut at = opening(text, f);
+    let mut at = put_header(text, f);
     let mut from: usize = 0;
     for k in 0..extras.len() {
         let end = zero(given, from);
@@ -171,18 +168,10 @@ fn refused_read(r: Refusal) {
     compared(false);
 }
 
-// The next answer of the reader. It must be this clause, or the end where no clause is due.
-fn next_read(
-    text: &[u8],
-    cursor: Cursor,
-    lits: &mut [i32],
-    due: bool,
-    extra: u64,
-    given: &[i32],
-) -> Cursor {
-    let format = cursor.format;
-    let step = cursor.next_clause(text, lits);
-    let answer = step.answer;
+// An answer of the reader. It must be this clause, or the end where no clause is due.
+fn answer_read(answer: Next, format: Format, lits: &[i32], due: bool, extra: u64, given: &[i32])
+    requires { ⌜ CountFits (length (now lits)) answer ⌝ }
+{
     match answer {
         Next::Clause { extra: read, count } => clause_read(
             format,
@@ -194,6 +183,21 @@ fn next_read(
         Next::Ended => end_read(!due),
         Next::Refused { refusal, count: _ } => refused_read(refusal),
     }
+}
+
+// The next answer of the reader, and the cursor past it.
+fn next_read(
+    text: &[u8],
+    cursor: Cursor,
+    lits: &mut [i32],
+    due: bool,
+    extra: u64,
+    given: &[i32],
+) -> Cursor {
+    let format = cursor.format;
+    let step = cursor.next_clause(text, lits);
+    let answer = step.answer;
+    answer_read(answer, format, lits, due, extra, given);
     step.cursor
 }
 

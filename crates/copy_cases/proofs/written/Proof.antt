@@ -12,8 +12,8 @@ Inv-loop text₀ extras given format at₀ from₀ k₀ k-end text at from k = (
 abbrev μ-loop : tie.MeasureT-loop
 μ-loop text₀ extras given format at₀ from₀ k₀ k-end text at from k = length extras - k
 
-opening-requires : tie.Need-opening-requires Inv-loop μ-loop
-opening-requires c κs = search needs
+put-header-requires : tie.Need-put-header-requires Inv-loop μ-loop
+put-header-requires c κs = search needs
 
 loop-holds : tie.Need-loop-holds Inv-loop μ-loop
 loop-holds c = search needs
@@ -66,7 +66,7 @@ written-spec =
     (tie.spec
     Inv-loop
     μ-loop
-    opening-requires
+    put-header-requires
     loop-holds
     zero-requires
     mul-put-clause

@@ -15,6 +15,11 @@ Inv-loop text lits₀ cursor₀ lits cursor = length lits ≡ length lits₀
 abbrev μ-loop : tie.MeasureT-loop
 μ-loop text lits₀ cursor₀ lits cursor = toCome text (cursor .place)
 
+abbrev at-call : tie.After-answer Inv-loop μ-loop → tie.After-next-clause Inv-loop μ-loop
+at-call c =
+    let at-cursor = c .before .before in
+    at-cursor .before .before
+
 loop-holds : tie.Need-loop-holds Inv-loop μ-loop
 loop-holds c = search needs
 
@@ -25,19 +30,26 @@ enum-known-answer : tie.Need-enum-known-answer Inv-loop μ-loop
 enum-known-answer c = search needs
 
 slice-reshare-prefix-clause-line : tie.Need-slice-reshare-prefix-clause-line Inv-loop μ-loop
-slice-reshare-prefix-clause-line c = omega (arith, steps-fit _ _ _ _ _ (c .before .before .before .before .before .next-clause .ensures) (c .before .answer .given .1), c .before .before .before .before .before .next-clause .kept .1 .1 .0)
+slice-reshare-prefix-clause-line c =
+    let at-answer = c .before in
+    let called = at-call at-answer .next-clause in
+    omega (arith, steps-fit _ _ _ _ _ (called .ensures) (at-answer .answer .given .1), called .kept .1 .1 .0)
 
 slice-aggregate-clause-line : tie.Need-slice-aggregate-clause-line Inv-loop μ-loop
-slice-aggregate-clause-line c = sym (length-take-le _ _ (omega (arith, steps-fit _ _ _ _ _ (c .before .before .before .before .before .before .next-clause .ensures) (c .before .before .answer .given .1), c .before .before .before .before .before .before .next-clause .kept .1 .1 .0)))
+slice-aggregate-clause-line c = sym (length-take-le _ _ (slice-reshare-prefix-clause-line (c .before)))
 
 clause-line-requires : tie.Need-clause-line-requires Inv-loop μ-loop
 clause-line-requires c κs = search needs
 
 loop-less : tie.Need-loop-less Inv-loop μ-loop
-loop-less c = steps-lead _ _ _ _ _ _ refl (c .before .before .before .before .before .before .before .next-clause .ensures) (c .before .before .before .answer .given .1) .1
+loop-less c =
+    let at-answer = c .before .before .before in
+    steps-lead _ _ _ _ _ _ refl (at-call at-answer .next-clause .ensures) (at-answer .answer .given .1) .1
 
 loop-again : tie.Need-loop-again Inv-loop μ-loop
-loop-again c = c .before .before .before .before .before .before .before .next-clause .kept .1 .1 .0 ∙ c .before .before .before .before .before .before .before .before .before .loop .inv
+loop-again c =
+    let called = at-call (c .before .before .before) in
+    called .next-clause .kept .1 .1 .0 ∙ called .before .before .loop .inv
 
 enum-told : tie.Need-enum-told Inv-loop μ-loop
 enum-told c = search needs
