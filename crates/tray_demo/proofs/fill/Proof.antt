@@ -1,17 +1,18 @@
 -- `tray_demo::fill` ends: the places left fall. Assumes nothing.
 use Prim.Native.Nat.{_-_, _≤_}
-use mathlib.Core.Path.{_≡_}
-use lib.ListN.{length}
 use Rattle.dimacs.specs.Names.{places}
 use borrow.Author.Needs.{needs}
 use Rattle.tray_demo.proofs.fill.Statement.{statement}
 use Rattle.tray_demo.proofs.fill.Tie as tie
 
 abbrev Inv-loop : tie.InvT-loop
-Inv-loop area₀ day₀ counter₀ area day counter = (counter ≤ places) × (length area ≡ length area₀)
+Inv-loop area begun₀ tray₀ counter₀ begun tray counter = counter ≤ places
 
 abbrev μ-loop : tie.MeasureT-loop
-μ-loop area₀ day₀ counter₀ area day counter = places - counter
+μ-loop area begun₀ tray₀ counter₀ begun tray counter = places - counter
+
+empty-requires : tie.Need-empty-requires Inv-loop μ-loop
+empty-requires c κs = search needs
 
 loop-holds : tie.Need-loop-holds Inv-loop μ-loop
 loop-holds c = search needs
@@ -28,9 +29,6 @@ loop-less c = search needs
 loop-again : tie.Need-loop-again Inv-loop μ-loop
 loop-again c = search needs
 
-same-length : tie.Need-same-length Inv-loop μ-loop
-same-length c = search needs
-
 returns : tie.Need-returns Inv-loop μ-loop
 returns c = search needs
 
@@ -40,10 +38,10 @@ fill-spec =
     (tie.spec
     Inv-loop
     μ-loop
+    empty-requires
     loop-holds
     feed-requires
     add-counter
     loop-less
     loop-again
-    same-length
     returns)

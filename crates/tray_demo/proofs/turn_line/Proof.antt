@@ -1,107 +1,29 @@
--- `tray_demo::turn_line` lends no more of the buffer than it has. Assumes nothing.
-use mathlib.Core.Path.{sym}
-use lib.Seq.{length-take-le}
+-- `tray_demo::turn_line` lends no more of the buffer than it has, since a turn tells of no more literals than that. Assumes nothing.
+use mathlib.Core.Path.{refl}
 use Rattle.tray.proofs.Fits.{told-fits}
 use borrow.Author.Needs.{needs}
-use native.Mathlib.Omega.{arith}
 use Rattle.tray_demo.proofs.turn_line.Statement.{statement}
 use Rattle.tray_demo.proofs.turn_line.Tie as tie
 
 front-requires : tie.Need-front-requires
 front-requires c κs = search needs
 
-format-of-requires : tie.Need-format-of-requires
-format-of-requires c κs = search needs
+mul-less : tie.Need-mul-less
+mul-less c = search needs
+
+element-copy-out-less : tie.Need-element-copy-out-less
+element-copy-out-less c = search needs
+
+less-requires : tie.Need-less-requires
+less-requires c κs = search needs
 
 turn-requires : tie.Need-turn-requires
 turn-requires c κs = search needs
 
-enum-told : tie.Need-enum-told
-enum-told c = search needs
-
-enum-known-answer : tie.Need-enum-known-answer
-enum-known-answer c = search needs
-
-slice-aggregate-word : tie.Need-slice-aggregate-word
-slice-aggregate-word c = search needs
-
-word-requires : tie.Need-word-requires
-word-requires c κs = search needs
-
-number-requires : tie.Need-number-requires
-number-requires c κs = search needs
-
-slice-aggregate-word-2 : tie.Need-slice-aggregate-word-2
-slice-aggregate-word-2 c = search needs
-
-word-requires-2 : tie.Need-word-requires-2
-word-requires-2 c κs = search needs
-
-enum-known-said : tie.Need-enum-known-said
-enum-known-said c = search needs
-
-slice-aggregate-opening-words : tie.Need-slice-aggregate-opening-words
-slice-aggregate-opening-words c = search needs
-
-slice-aggregate-opening-words-2 : tie.Need-slice-aggregate-opening-words-2
-slice-aggregate-opening-words-2 c = search needs
-
-opening-words-requires : tie.Need-opening-words-requires
-opening-words-requires c κs = search needs
-
-enum-known-said-2 : tie.Need-enum-known-said-2
-enum-known-said-2 c = search needs
-
-enum-known-next : tie.Need-enum-known-next
-enum-known-next c = search needs
-
-slice-reshare-prefix-clause-words : tie.Need-slice-reshare-prefix-clause-words
-slice-reshare-prefix-clause-words c = omega (arith, told-fits (c .before .before .before .before .before .before .before .before .before .before .before .before .before .before .before .before .turn .ensures) (c .before .before .before .before .before .before .before .before .before .before .before .before .answer .given .1) (c .before .before .before .before .said2 .given .1) (c .before .next .given .1), c .before .before .before .before .before .before .before .before .before .before .before .before .before .before .before .before .turn .kept .1 .1 .0)
-
-slice-aggregate-clause-words : tie.Need-slice-aggregate-clause-words
-slice-aggregate-clause-words c = sym (length-take-le _ _ (omega (arith, told-fits (c .before .before .before .before .before .before .before .before .before .before .before .before .before .before .before .before .before .turn .ensures) (c .before .before .before .before .before .before .before .before .before .before .before .before .before .answer .given .1) (c .before .before .before .before .before .said2 .given .1) (c .before .before .next .given .1), c .before .before .before .before .before .before .before .before .before .before .before .before .before .before .before .before .before .turn .kept .1 .1 .0)))
-
-clause-words-requires : tie.Need-clause-words-requires
-clause-words-requires c κs = search needs
-
-enum-told-2 : tie.Need-enum-told-2
-enum-told-2 c = search needs
-
-slice-aggregate-word-3 : tie.Need-slice-aggregate-word-3
-slice-aggregate-word-3 c = search needs
-
-word-requires-3 : tie.Need-word-requires-3
-word-requires-3 c κs = search needs
-
-enum-known-next-2 : tie.Need-enum-known-next-2
-enum-known-next-2 c = search needs
-
-slice-aggregate-refused-words : tie.Need-slice-aggregate-refused-words
-slice-aggregate-refused-words c = search needs
-
-slice-aggregate-refused-words-2 : tie.Need-slice-aggregate-refused-words-2
-slice-aggregate-refused-words-2 c = search needs
-
-refused-words-requires : tie.Need-refused-words-requires
-refused-words-requires c κs = search needs
-
-mul-since : tie.Need-mul-since
-mul-since c = search needs
-
-element-copy-out-since : tie.Need-element-copy-out-since
-element-copy-out-since c = search needs
-
-since-requires : tie.Need-since-requires
-since-requires c κs = search needs
-
-turns-words-requires : tie.Need-turns-words-requires
-turns-words-requires c κs = search needs
-
-slice-aggregate-word-4 : tie.Need-slice-aggregate-word-4
-slice-aggregate-word-4 c = search needs
-
-word-requires-4 : tie.Need-word-requires-4
-word-requires-4 c κs = search needs
+told-line-requires : tie.Need-told-line-requires
+told-line-requires c κs =
+    let at-turn = c .before .before in
+    λ ticket said last next g e. rw (at-turn .turn .kept .1 .1 .0) (told-fits (at-turn .turn .ensures) g e refl)
 
 same-length : tie.Need-same-length
 same-length c = search needs
@@ -109,49 +31,15 @@ same-length c = search needs
 returns : tie.Need-returns
 returns c = search needs
 
-same-length-2 : tie.Need-same-length-2
-same-length-2 c = search needs
-
-returns-2 : tie.Need-returns-2
-returns-2 c = search needs
-
 pub turn-line-spec : {M : Type 1} → statement M
 turn-line-spec =
     tie.close
     (tie.spec
     front-requires
-    format-of-requires
+    mul-less
+    element-copy-out-less
+    less-requires
     turn-requires
-    enum-told
-    enum-known-answer
-    slice-aggregate-word
-    word-requires
-    number-requires
-    slice-aggregate-word-2
-    word-requires-2
-    enum-known-said
-    slice-aggregate-opening-words
-    slice-aggregate-opening-words-2
-    opening-words-requires
-    enum-known-said-2
-    enum-known-next
-    slice-reshare-prefix-clause-words
-    slice-aggregate-clause-words
-    clause-words-requires
-    enum-told-2
-    slice-aggregate-word-3
-    word-requires-3
-    enum-known-next-2
-    slice-aggregate-refused-words
-    slice-aggregate-refused-words-2
-    refused-words-requires
-    mul-since
-    element-copy-out-since
-    since-requires
-    turns-words-requires
-    slice-aggregate-word-4
-    word-requires-4
+    told-line-requires
     same-length
-    returns
-    same-length-2
-    returns-2)
+    returns)
