@@ -13,7 +13,7 @@ abbrev Inv-loop : tie.InvT-loop
 Inv-loop text lits₀ cursor₀ lits cursor = length lits ≡ length lits₀
 
 abbrev μ-loop : tie.MeasureT-loop
-μ-loop text lits₀ cursor₀ lits cursor = toCome text (cursor .place)
+μ-loop text lits₀ cursor₀ lits cursor = toCome text (cursor .progress .place)
 
 abbrev at-call : tie.After-answer Inv-loop μ-loop → tie.After-next-clause Inv-loop μ-loop
 at-call c =
