@@ -11,40 +11,54 @@ use Rattle.ring.specs.Ring.{ring, noJob, howMany, ahead, movedUp, closed
 use Rattle.ring.specs.declared.Job.{Job}
 use Rattle.ring.specs.declared.Tray.{Tray}
 
-module _ (k : ℕ) (js : List Job) (h n : ℕ) where
-  -- None of the first i has the ticket.
-  abbrev pub Passed : ℕ → Type 0
-  Passed i = ahead k (ring js h n) ≡ i + ahead k (ring js (h + i) (n - i))
+-- The ticket is not among the first i of n jobs.
+pub record NotAmong (k : ℕ) (t : Tray) (n i : ℕ) : Type 0 where
+  pub up-to : i ≤ n
+  pub so-far : ahead k (ring (t .jobs) (t .head) n) ≡ i + ahead k (ring (t .jobs) (t .head + i) (n - i))
 
-  pub passed-none : Passed 0
-  passed-none = let a : h + 0 ≡ h = omega arith in let b : n - 0 ≡ n = omega arith in rw (a, b) (omega arith)
+pub not-among-none : (k : ℕ) (t : Tray) (n : ℕ) → NotAmong k t n 0
+not-among-none k t n =
+    let a : t .head + 0 ≡ t .head = omega arith in
+    let b : n - 0 ≡ n = omega arith in
+    record { up-to = omega arith; so-far = rw (a, b) (omega arith) }
 
-  next-ring : (i : ℕ) → i < n → ring js (h + i) (n - i) ≡ getD js ((h + i) % places) noJob ∷ ring js (h + (i + 1)) (n - (i + 1))
-  next-ring i l = let a : n - i ≡ suc (n - (i + 1)) = omega arith in let b : h + i + 1 ≡ h + (i + 1) = omega arith in rw (a, b)
+module _ {k : ℕ} {t : Tray} {n i : ℕ} (m : NotAmong k t n i) where
+  -- The next job, by its place.
+  abbrev at-next : ℕ → Job
+  at-next p = getD (t .jobs) p noJob
 
-  same-place : (i : ℕ) → (h % places + i) % places ≡ (h + i) % places
-  same-place i = omega arith
+  same-place : (t .head % places + i) % places ≡ (t .head + i) % places
+  same-place = omega arith
 
-  pub passed-more : (i : ℕ) → i < n → (getD js ((h % places + i) % places) noJob .ticket ≡ k → ⊥) → Passed i → Passed (i + 1)
+  next-ring : i < n → ring (t .jobs) (t .head + i) (n - i) ≡ at-next ((t .head + i) % places) ∷ ring (t .jobs) (t .head + (i + 1)) (n - (i + 1))
+  next-ring l =
+      let a : n - i ≡ suc (n - (i + 1)) = omega arith in
+      let b : t .head + i + 1 ≡ t .head + (i + 1) = omega arith in
+      rw (a, b)
+
+  pub not-among-more : i < n → (at-next ((t .head % places + i) % places) .ticket ≡ k → ⊥) → NotAmong k t n (i + 1)
   unfolding ahead
-  passed-more i l t p =
-      let e = ne-eqb k (getD js ((h + i) % places) noJob .ticket) (λ x. t (rw (same-place i) (sym x))) in
-      let q : ahead k (ring js (h + i) (n - i)) ≡ suc (ahead k (ring js (h + (i + 1)) (n - (i + 1)))) = rw (next-ring i l) (rw e) in
-      omega (arith, q)
+  not-among-more l other =
+      let e = ne-eqb k (at-next ((t .head + i) % places) .ticket) (λ x. other (rw same-place (sym x))) in
+      let q : ahead k (ring (t .jobs) (t .head + i) (n - i)) ≡ suc (ahead k (ring (t .jobs) (t .head + (i + 1)) (n - (i + 1)))) = rw (next-ring l) (rw e) in
+      record { up-to = omega arith; so-far = let p = m .so-far in omega arith }
 
-  pub passed-found : (i : ℕ) → i < n → getD js ((h % places + i) % places) noJob .ticket ≡ k → Passed i → i ≡ ahead k (ring js h n)
+  pub ahead-found : i < n → at-next ((t .head % places + i) % places) .ticket ≡ k → i ≡ ahead k (ring (t .jobs) (t .head) n)
   unfolding ahead
-  passed-found i l t p =
-      let e = eq-eqb k (getD js ((h + i) % places) noJob .ticket) (sym t ∙ rw (same-place i)) in
-      let q : ahead k (ring js (h + i) (n - i)) ≡ 0 = rw (next-ring i l) (rw e) in
-      omega (arith, q)
+  ahead-found l same =
+      let e = eq-eqb k (at-next ((t .head + i) % places) .ticket) (sym same ∙ rw same-place) in
+      let q : ahead k (ring (t .jobs) (t .head + i) (n - i)) ≡ 0 = rw (next-ring l) (rw e) in
+      let p = m .so-far in
+      omega arith
 
-  pub passed-all : (i : ℕ) → i ≤ n → n ≤ i → Passed i → i ≡ ahead k (ring js h n)
+  pub ahead-nowhere : n ≤ i → i ≡ ahead k (ring (t .jobs) (t .head) n)
   unfolding ahead
-  passed-all i l t p =
+  ahead-nowhere l =
+      let h = m .up-to in
       let z : n - i ≡ 0 = omega arith in
-      let q : ahead k (ring js (h + i) (n - i)) ≡ 0 = rw z in
-      omega (arith, q)
+      let q : ahead k (ring (t .jobs) (t .head + i) (n - i)) ≡ 0 = rw z in
+      let p = m .so-far in
+      omega arith
 
 -- From the first job behind the one that leaves on, those up to the i-th have moved up; the rest of the record is as it was.
 pub record Moving (n : ℕ) (t : Tray) (from : ℕ) (u : Tray) (i : ℕ) : Type 0 where
@@ -58,14 +72,14 @@ module _ {n : ℕ} {t : Tray} {from : ℕ} {u : Tray} {i : ℕ} (m : Moving n t 
   abbrev place : ℕ
   place = (t .head % places + i) % places
 
-  abbrev behind : Job
-  behind = getD (u .jobs) ((t .head % places + i + 1) % places) noJob
+  abbrev next-job : Job
+  next-job = getD (u .jobs) ((t .head % places + i + 1) % places) noJob
 
-  pub moving-more : i + 1 < n → Moving n t from (record { jobs = set (u .jobs) place behind; head = u .head; count = u .count; given = u .given }) (i + 1)
+  pub moving-more : i + 1 < n → Moving n t from (record { jobs = set (u .jobs) place next-job; head = u .head; count = u .count; given = u .given }) (i + 1)
   unfolding movedUp
   moving-more l =
       let a : n - (i + 1) ≡ suc (n - (i + 1 + 1)) = omega arith in
-      record { below = l; jobs = m .jobs ∙ rw a; head = m .head; given = m .given; all = length-set (u .jobs) place behind ∙ m .all }
+      record { below = l; jobs = m .jobs ∙ rw a; head = m .head; given = m .given; all = length-set (u .jobs) place next-job ∙ m .all }
 
   pub moving-done : n ≤ i + 1 → record { jobs = u .jobs; head = u .head; count = n - 1; given = u .given } ≡ closedUp t n from
   unfolding movedUp
