@@ -6,7 +6,7 @@ use mathlib.Core.Option.{Option, none, some}
 use mathlib.Core.Path.{_≡_, refl, sym, ap, _∙_}
 use native.Mathlib.Omega.{arith}
 use borrow.Author.Tests.{leb-true, leb-false, ltb-true, ltb-false, lt-leb, lt-ltb, le-ltb, ne-eqb}
-use lib.ListN.{length, getD}
+use lib.ListN.{length, getD, set}
 use lib.Dec.{leb, ltb, eqb}
 use lib.IntN.{ℤ}
 use Rattle.dimacs.specs.Names.{Reason, numberOf, kindOf, largest, ownRoom, places}
@@ -16,13 +16,14 @@ use Rattle.dimacs.specs.declared.Kind.{Kind}
 use Rattle.dimacs.specs.declared.Kind.the-variants.{Unknown, Clauses, Log}
 use Rattle.dimacs.proofs.Tests.{tested}
 use Rattle.dimacs.proofs.Buffer as buffer
+use Rattle.formula.specs.declared.Cursor.{Cursor}
 use Rattle.rota.specs.Rota as rota
 use Rattle.rota.specs.Rota.{Call, put, turn, withdraw, told, ticketed, withdrawn, Done, does, Round, round, Entry, bad, good, Desk, waits, without, toBack}
 use Rattle.service.specs.declared.Stage.{Stage}
 use Rattle.service.specs.declared.Stage.the-variants as stage
 use Rattle.ring.specs.declared.Job.{Job}
 use Rattle.ring.specs.declared.Tray.{Tray}
-use Rattle.ring.specs.Ring.{ring, jobOf, noJob, howMany, waiting, placeBehind, joined, frontDropped, goesOn, ahead, takenOut}
+use Rattle.ring.specs.Ring.{ring, jobOf, noJob, howMany, waiting, placeBehind, joined, goesOn, passed, ahead, takenOut}
 use Rattle.tray.specs.declared.PutDone.{PutDone}
 use Rattle.service.specs.declared.Goes.{Goes}
 use Rattle.service.specs.declared.Goes.the-variants.{On, Over}
@@ -74,24 +75,23 @@ joined-view t j l h =
     rw (lt-leb places (t .count) h, f, g)
     (ap (λ w. round w (t .given)) (ring-more (t .jobs) (placeBehind t (t .count)) j (t .head) (t .count) l h (omega arith)))
 
--- Where jobs wait, all but the first wait when it has left.
-module _ (t : Tray) (n : ℕ) (f : howMany t ≡ suc n) where
+-- Where jobs wait, the first goes to the back or leaves.
+module _ (t : Tray) (n : ℕ) (f : howMany t ≡ suc n) (j : Job) where
   abbrev rest : List Job
   rest = ring (t .jobs) (t .head + 1) n
 
-  dropped-is : frontDropped t ≡ record { jobs = t .jobs; head = placeBehind t 1; count = howMany t - 1; given = t .given }
-  unfolding frontDropped
-  dropped-is = rw (ne-eqb (howMany t) 0 (λ x. omega arith))
-
-  dropped-view : view (frontDropped t) ≡ round rest (t .given)
-  dropped-view =
+  over-view : view (passed t j Over) ≡ round rest (t .given)
+  over-view =
       let m : min (howMany t - 1) places ≡ n = omega arith in
-      rw (dropped-is, m) (ap (λ w. round w (t .given)) (ring-mod (t .jobs) (placeBehind t 1) (t .head + 1) n (omega arith)))
+      rw m (ap (λ w. round w (t .given)) (ring-mod (t .jobs) (placeBehind t 1) (t .head + 1) n (omega arith)))
 
-  back-view : (j : Job) → length (t .jobs) ≡ places → view (joined (frontDropped t) j) ≡ round (toBack rest j) (t .given)
-  back-view j l =
-      joined-view (frontDropped t) j (rw dropped-is l) (rw dropped-is (omega arith))
-      ∙ ap (λ (v : Round Job). round (toBack (v .waiting) j) (v .given)) dropped-view
+  on-view : (c : Cursor) → length (t .jobs) ≡ places → view (passed t j (On c)) ≡ round (toBack rest (goesOn j c)) (t .given)
+  on-view c l =
+      let m : min (howMany t) places ≡ suc n = omega arith in
+      rw m
+      (ap (λ w. round w (t .given))
+      (ring-mod (set (t .jobs) (placeBehind t (howMany t)) (goesOn j c)) (placeBehind t 1) (t .head + 1) (suc n) (omega arith)
+      ∙ ring-more (t .jobs) (placeBehind t (howMany t)) (goesOn j c) (t .head + 1) n l (omega arith) (omega arith)))
 
 module _ (t : Tray) (l : length (t .jobs) ≡ places) where
   full-same : leb places (length (waiting t)) ≡ leb places (t .count)
@@ -131,8 +131,8 @@ module _ (t : Tray) (l : length (t .jobs) ≡ places) where
   turned-is : (n : ℕ) → howMany t ≡ suc n → (j : Job) (a : Reply) (g : Goes) (old : List ℤ)
       → turnViewed (laid (literalsIn a) old) (turned t j (record { said = saidOf a; goes = g }))
       ≡ rota.went desk (t .given) (ring (t .jobs) (t .head + 1) n) (j .ticket) a (goesBy j g)
-  turned-is n f j a Over old = rw (reply-in-buffer a old) (ap (does (told (j .ticket) a true)) (dropped-view t n f))
-  turned-is n f j a (On c) old = rw (reply-in-buffer a old) (ap (does (told (j .ticket) a false)) (back-view t n f (goesOn j c) l))
+  turned-is n f j a Over old = rw (reply-in-buffer a old) (ap (does (told (j .ticket) a true)) (over-view t n f j))
+  turned-is n f j a (On c) old = rw (reply-in-buffer a old) (ap (does (told (j .ticket) a false)) (on-view t n f j c l))
 
   turn-is : (e : Lent) → turnViewed (bufferOf t (e .area) (e .buffer)) (turnOf t (e .area) (length (e .buffer))) ≡ rota.turnBy desk e (t .given) (waiting t)
   unfolding turnOf bufferOf

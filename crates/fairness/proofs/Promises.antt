@@ -5,7 +5,7 @@ use mathlib.Core.List.{List, [], _∷_}
 use mathlib.Core.Path.{_≡_, refl, ap, sym, _∙_, subst}
 use native.Mathlib.Omega.{arith}
 use lib.ListN.{length, length-set}
-use lib.Dec.{leb, ltb, eqb}
+use lib.Dec.{leb, ltb}
 use lib.IntN.{ℤ}
 use Rattle.dimacs.specs.Names.{kindOf, largest, ownRoom, places}
 use Rattle.dimacs.specs.declared.Format.{Format}
@@ -26,7 +26,7 @@ use Rattle.ring.specs.declared.Job.{Job}
 use Rattle.ring.specs.declared.Tray.{Tray}
 use Rattle.ring.specs.declared.Front.{Front}
 use Rattle.ring.specs.declared.Front.the-variants as front
-use Rattle.ring.specs.Ring.{jobOf, emptyTray, howMany, waiting, placeBehind, frontOf, joined, frontDropped, goesOn, passed, ahead, takenOut}
+use Rattle.ring.specs.Ring.{jobOf, emptyTray, howMany, waiting, placeBehind, frontOf, joined, goesOn, passed, ahead, takenOut}
 use Rattle.service.specs.declared.Goes.{Goes}
 use Rattle.service.specs.declared.Goes.the-variants.{On, Over}
 use Rattle.service.specs.Serving.{within, Reply}
@@ -89,13 +89,9 @@ length-joined : (t : Tray) (j : Job) → length (joined t j .jobs) ≡ length (t
 unfolding joined
 length-joined t j = tested (leb places (t .count)) (λ a. rw a) (λ a. rw a (length-set (t .jobs) (placeBehind t (t .count)) j))
 
-length-dropped : (t : Tray) → length (frontDropped t .jobs) ≡ length (t .jobs)
-unfolding frontDropped
-length-dropped t = tested (eqb (howMany t) 0) (λ a. rw a) (λ a. rw a)
-
 length-passed : (t : Tray) (j : Job) (g : Goes) → length (passed t j g .jobs) ≡ length (t .jobs)
-length-passed t j (On c) = length-joined (frontDropped t) (goesOn j c) ∙ length-dropped t
-length-passed t j Over = length-dropped t
+length-passed t j (On c) = length-set (t .jobs) (placeBehind t (howMany t)) (goesOn j c)
+length-passed t j Over = refl
 
 length-put : (t : Tray) (p : Put) (x : Kind) → length (putAs t p x .tray .jobs) ≡ length (t .jobs)
 unfolding entered

@@ -59,19 +59,15 @@ joined t j =
     cond (leb places (t .count)) t
     (record { jobs = set (t .jobs) (placeBehind t (t .count)) j; head = t .head; count = t .count + 1; given = t .given })
 
--- The job at the front leaves, if one waits.
-unfoldable pub frontDropped : Tray → Tray
-frontDropped t =
-    cond (eqb (howMany t) 0) t (record { jobs = t .jobs; head = placeBehind t 1; count = howMany t - 1; given = t .given })
-
 -- A job with the cursor with which it goes on.
 abbrev pub goesOn : Job → Cursor → Job
 goesOn j c = jobOf (j .ticket) (j .start) (j .length) (Reading c)
 
 -- The job at the front, served, goes to the back or leaves.
 abbrev pub passed : Tray → Job → Goes → Tray
-passed t j (On c) = joined (frontDropped t) (goesOn j c)
-passed t j Over = frontDropped t
+passed t j (On c) =
+    record { jobs = set (t .jobs) (placeBehind t (howMany t)) (goesOn j c); head = placeBehind t 1; count = howMany t; given = t .given }
+passed t j Over = record { jobs = t .jobs; head = placeBehind t 1; count = howMany t - 1; given = t .given }
 
 -- How many jobs stand before the one with the ticket, or how many there are.
 unfoldable pub ahead : ℕ → List Job → ℕ

@@ -2,10 +2,10 @@
 //
 // Any record of these types is a ring: its head is taken modulo the places, and it counts no more jobs than there are places.
 ghost use mathlib.Core.Path.{_≡_};
-ghost use Prim.Native.Nat.{_≤_, _<_};
+ghost use Prim.Native.Nat.{_-_, _≤_, _<_};
 ghost use Rattle.dimacs.specs.Names.{places};
 ghost use Rattle.ring.specs.Ring as def;
-ghost use Rattle.ring.specs.Ring.{emptyTray, howMany, waiting, frontOf, joined, frontDropped, goesOn, passed, ahead, closedUp, takenOut};
+ghost use Rattle.ring.specs.Ring.{emptyTray, howMany, waiting, frontOf, joined, goesOn, passed, ahead, closedUp, takenOut};
 use dimacs::Format;
 use dimacs::Mode;
 use dimacs::PLACES;
@@ -88,19 +88,6 @@ pub fn join(mut tray: Tray, job: Job) -> Tray
     tray
 }
 
-// The job at the front leaves, if one waits.
-fn drop_front(mut tray: Tray) -> Tray
-    ensures { λ r. ⌜ r ≡ frontDropped tray ⌝ }
-{
-    let waiting = how_many(tray);
-    if waiting == 0 {
-        return tray;
-    }
-    tray.head = (tray.head % PLACES + 1) % PLACES;
-    tray.count = waiting - 1;
-    tray
-}
-
 // A job with the cursor with which it goes on.
 fn goes_on(job: Job, cursor: Cursor) -> Job
     ensures { λ r. ⌜ r ≡ goesOn job cursor ⌝ }
@@ -113,15 +100,34 @@ fn goes_on(job: Job, cursor: Cursor) -> Job
     }
 }
 
+// One less, or none.
+fn less_one(n: usize) -> usize
+    ensures { λ r. ⌜ r ≡ n - 1 ⌝ }
+{
+    if n == 0 {
+        return 0;
+    }
+    n - 1
+}
+
 // The job at the front, served, goes to the back or leaves.
-pub fn pass(tray: Tray, job: Job, goes: Goes) -> Tray
+pub fn pass(mut tray: Tray, job: Job, goes: Goes) -> Tray
     ensures { λ r. ⌜ r ≡ passed tray job goes ⌝ }
 {
-    let rest = drop_front(tray);
+    let waiting = how_many(tray);
+    let head = tray.head % PLACES;
+    tray.head = (head + 1) % PLACES;
     match goes {
-        Goes::On(cursor) => join(rest, goes_on(job, cursor)),
-        Goes::Over => rest,
+        Goes::On(cursor) => {
+            let back = (head + waiting) % PLACES;
+            tray.jobs[back] = goes_on(job, cursor);
+            tray.count = waiting;
+        }
+        Goes::Over => {
+            tray.count = less_one(waiting);
+        }
     }
+    tray
 }
 
 // How many of the first `count` jobs stand before the one with the ticket, or `count`.
