@@ -10,7 +10,7 @@ use Rattle.tray.specs.declared.PutAnswer.the-variants as putting
 use Rattle.service.specs.Serving.{Reply}
 use Rattle.tray.specs.Calls.{Put}
 use Rattle.fairness.specs.Promises.{did, thenPut, since}
-use Rattle.fairness.specs.Lending.{Event, put, turn, withdraw, callIn, saidIn, leftIn, Keeps, AllKeep, finally, said, called, LentAccount, Went, LentBound, LentContent, LentDemand}
+use Rattle.fairness.specs.Lending.{Event, put, turn, withdraw, callIn, saidIn, leftIn, Keeps, AllKeep, finally, said, called, LentAccount, AfterPut, LentBound, LentContent, LentDemand}
 use Rattle.fairness.proofs.Promises.{tray-account, tray-bound, tray-content}
 
 -- A call on a lent tray is that call on its record.
@@ -34,7 +34,7 @@ pub lent-account : LentAccount
 lent-account es h = rw (lent-said es emptyTray h, lent-finally es emptyTray h) (tray-account (called es))
 
 -- After a put that was given a ticket, the calls are those since the same put by value.
-module _ {before : List Event} {p : Put} {k : ℕ} {after : List Event} (w : Went before p k after) where
+module _ {before : List Event} {p : Put} {k : ℕ} {after : List Event} (w : AfterPut before p k after) where
   lent-put : does (ticketed k) (w .tray) ≡ thenPut (called before) p
   lent-put = lent-did (finally emptyTray before) (put p (putting.Ticket k) (w .tray)) (w .given) ∙ ap (λ (t : Tray). did t (rota.put p)) (lent-finally before emptyTray (w .first))
 

@@ -78,7 +78,7 @@ LentAccount =
     → length (tickets (said es)) ≡ verdicts (said es) + withdrawals (said es) + length (waiting (finally emptyTray es))
 
 -- Some calls, a put that was given a ticket, and the calls after it.
-pub record Went (before : List Event) (p : Put) (k : ℕ) (after : List Event) : Type 0 where
+pub record AfterPut (before : List Event) (p : Put) (k : ℕ) (after : List Event) : Type 0 where
   pub tray : Tray
   pub first : AllKeep emptyTray before
   pub given : LentPut (finally emptyTray before) p tray (putting.Ticket k)
@@ -87,7 +87,7 @@ pub record Went (before : List Event) (p : Put) (k : ℕ) (after : List Event) :
 -- The bound: the verdict comes within so many turns, whatever they are lent.
 abbrev pub LentBound : Type 0
 LentBound =
-    (before : List Event) (p : Put) (k : ℕ) (after : List Event) → Went before p k after → isWithdrawn k (said after) ≡ false
+    (before : List Event) (p : Put) (k : ℕ) (after : List Event) → AfterPut before p k after → isWithdrawn k (said after) ≡ false
     → places * (2 + (p .length + 1) / 2) ≤ turns (said after) → concluded (heard k (said after)) ≡ true
 
 -- The content: what the ticket hears is what is said of its bytes read alone, if they are in the area lent to each of its own turns.
@@ -95,7 +95,7 @@ abbrev pub LentContent : Type 0
 LentContent =
     (before : List Event) (p : Put) (k : ℕ) (after : List Event) (f : Format) (m : Mode) (bytes : List ℕ)
     → kindOf (p .format) (p .mode) ≡ Clauses f m
-    → Went before p k after → isWithdrawn k (said after) ≡ false
+    → AfterPut before p k after → isWithdrawn k (said after) ≡ false
     → AtOwnTurns (Holds p bytes) k (called after) (said after)
     → Hears (saidAlone f m bytes) (heard k (said after))
 
@@ -104,7 +104,7 @@ abbrev pub LentDemand : Type 0
 LentDemand =
     (before : List Event) (p : Put) (k : ℕ) (after : List Event) (f : Format) (m : Mode) (bytes : List ℕ)
     → kindOf (p .format) (p .mode) ≡ Clauses f m
-    → Went before p k after → isWithdrawn k (said after) ≡ false
+    → AfterPut before p k after → isWithdrawn k (said after) ≡ false
     → AtOwnTurns (Holds p bytes) k (called after) (said after)
     → places * (2 + (p .length + 1) / 2) ≤ turns (said after)
     → heard k (said after) ≡ toTheLast (saidAlone f m bytes)
