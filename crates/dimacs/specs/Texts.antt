@@ -54,7 +54,7 @@ finalOf (clause extra so) = final.Open
 finalOf ended = final.Ended
 finalOf (refused r so) = final.Refused r
 
--- After so many clauses and an answer, at its place: a clause counts.
+-- How far a text is read after so many clauses and an answer at a place. A clause is counted.
 abbrev pub settledBy : ℕ → ℕ → Final → Progress
 settledBy count at final.Open = progress at (oneMore count) final.Open
 settledBy count at final.Ended = progress at count final.Ended

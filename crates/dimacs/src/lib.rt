@@ -198,7 +198,7 @@ pub enum Opening {
     Refused(Refusal),
 }
 
-// What stands for a number that is not there: the end of the text where it may come; no clause; or no literals after a weight or group.
+// What it means that no number stands at a place: the text may end there; or there is no clause; or there are no literals after a weight or group.
 pub enum Absence {
     MayEnd,
     NoClause,

@@ -140,7 +140,7 @@ fn absence_of(most: u64) -> Absence
     Absence::NoClause
 }
 
-// The answer that is final by a call's answer, if it is.
+// The end and a refusal are final.
 fn final_of(answer: Next) -> Final
     ensures { λ r. ⌜ r ≡ lastOf answer ⌝ }
 {
@@ -151,7 +151,7 @@ fn final_of(answer: Next) -> Final
     }
 }
 
-// How far a text is read after so many clauses and an answer, at its place: a clause counts.
+// How far a text is read after so many clauses and an answer at a place. A clause is counted.
 fn settled(count: u64, place: usize, last: Final) -> Progress
     ensures { λ r. ⌜ r ≡ settledBy count place last ⌝ }
 {
