@@ -1,6 +1,6 @@
 /* Latchtwig for C: whole texts in the DIMACS formats, and solver logs, checked by number and byte slice.
  *
- * Link the static library that `rt staticlib host` writes to target/staticlib/libhost.a, an archive for x86-64 Linux. It needs no other library.
+ * Link the static library that `rt staticlib latchtwig` writes to target/staticlib/liblatchtwig.a, an archive for x86-64 Linux. It needs no other library.
  *
  * A text is a pointer to its first byte and a count of bytes. Any bytes will do, zeros among them; nothing need end the text. With length 0 the pointer is not
  * looked at and may be null. Otherwise `length` bytes from it on must be readable, and must not change during a call. At most PTRDIFF_MAX bytes are allowed.

@@ -1,4 +1,4 @@
-//! Links the proved readers: the static library in `LATCHTWIG_LIB_DIR` if that is set, else the one that `rt staticlib host` builds in the repository around
+//! Links the proved readers: the static library in `LATCHTWIG_LIB_DIR` if that is set, else the one that `rt staticlib latchtwig` builds in the repository around
 //! this crate.
 
 use std::env;
@@ -6,7 +6,7 @@ use std::path::{Path, PathBuf};
 use std::process::Command;
 
 const VARIABLE: &str = "LATCHTWIG_LIB_DIR";
-const LIBRARY: &str = "libhost.a";
+const LIBRARY: &str = "liblatchtwig.a";
 
 fn main() {
     println!("cargo:rerun-if-env-changed={VARIABLE}");
@@ -22,7 +22,7 @@ fn main() {
         None => built(),
     };
     println!("cargo:rustc-link-search=native={}", directory.display());
-    println!("cargo:rustc-link-lib=static=host");
+    println!("cargo:rustc-link-lib=static=latchtwig");
 }
 
 /// The directory that was named, if the library is there.
@@ -42,16 +42,16 @@ fn found(directory: PathBuf) -> PathBuf {
 fn built() -> PathBuf {
     let crate_directory = env::var_os("CARGO_MANIFEST_DIR").unwrap_or_default();
     let root = Path::new(&crate_directory).join("../..");
-    if !root.join("crates/host/src/lib.rt").is_file() {
+    if !root.join("crates/latchtwig/src/lib.rt").is_file() {
         stop(&format!(
             "this crate does not stand in its repository; set {VARIABLE} to the directory of {LIBRARY}"
         ));
     }
     println!("cargo:rerun-if-changed={}", root.join("crates").display());
-    match Command::new("rt").args(["staticlib", "host"]).current_dir(&root).output() {
+    match Command::new("rt").args(["staticlib", "latchtwig"]).current_dir(&root).output() {
         Ok(said) if said.status.success() => root.join("target/staticlib"),
         Ok(said) => stop(&format!(
-            "`rt staticlib host` failed: {}{}",
+            "`rt staticlib latchtwig` failed: {}{}",
             String::from_utf8_lossy(&said.stdout),
             String::from_utf8_lossy(&said.stderr)
         )),

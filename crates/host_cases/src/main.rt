@@ -12,8 +12,8 @@ fn line(number: u32, place: u64) {
 }
 
 fn answer(format: u32, mode: u32, text: &[u8]) {
-    let number = host::latchtwig_refusal(format, mode, text);
-    line(number, host::latchtwig_place(format, mode, text));
+    let number = latchtwig::latchtwig_refusal(format, mode, text);
+    line(number, latchtwig::latchtwig_place(format, mode, text));
 }
 
 // The rest of a case whose text fills the slice lent, and whether another may follow.

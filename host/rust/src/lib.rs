@@ -136,7 +136,7 @@ pub fn check_by_number(format: u32, mode: u32, text: &[u8]) -> Result<(), Refusa
         0 => Ok(()),
         number => Err(Refusal {
             number,
-            // A place is at most the text's length, by `outcome-within` in crates/host/proofs/Within.antt.
+            // A place is at most the text's length, by `outcome-within` in crates/latchtwig/proofs/Within.antt.
             place: calls::place(format, mode, text) as usize,
         }),
     }

@@ -1,7 +1,7 @@
--- `host::narrowed` meets its contract, whichever of the two is smaller. Assumes nothing.
+-- `latchtwig::narrowed` meets its contract, whichever of the two is smaller. Assumes nothing.
 use borrow.Author.Needs.{needs}
-use Rattle.host.proofs.narrowed.Statement.{statement}
-use Rattle.host.proofs.narrowed.Tie as tie
+use Rattle.latchtwig.proofs.narrowed.Statement.{statement}
+use Rattle.latchtwig.proofs.narrowed.Tie as tie
 
 cast-result : tie.Need-cast-result
 cast-result c = search needs

@@ -1,9 +1,9 @@
--- `host::read` meets its contract, by what the numbers name. Assumes nothing.
+-- `latchtwig::read` meets its contract, by what the numbers name. Assumes nothing.
 use mathlib.Core.Path.{sym, _∙_}
-use Rattle.host.specs.Outcomes.{outcome}
+use Rattle.latchtwig.specs.Outcomes.{outcome}
 use borrow.Author.Needs.{needs}
-use Rattle.host.proofs.read.Statement.{statement}
-use Rattle.host.proofs.read.Tie as tie
+use Rattle.latchtwig.proofs.read.Statement.{statement}
+use Rattle.latchtwig.proofs.read.Tie as tie
 
 kind-of-requires : tie.Need-kind-of-requires
 kind-of-requires c κs = search needs

@@ -17,8 +17,8 @@ use Rattle.log_line.specs.declared.Log.the-variants.{Accepted, Refused}
 use Rattle.sat_solver_log.specs.Answers.{Parses}
 use Rattle.formula.specs.declared.Outcome.{Outcome}
 use Rattle.formula.specs.declared.Outcome.the-variants as outcome
-use Rattle.host.specs.Outcomes as host
-use Rattle.host.specs.Outcomes.{outcomeByLog, outcomeOfLog}
+use Rattle.latchtwig.specs.Outcomes as host
+use Rattle.latchtwig.specs.Outcomes.{outcomeByLog, outcomeOfLog}
 
 -- What an answer of the log reader comes to.
 abbrev pub logTold : Log → Outcome

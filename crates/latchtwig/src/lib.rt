@@ -3,7 +3,7 @@
 // Each takes the numbers of a format and a mode and a byte slice, by the C calling convention. host/latchtwig.h declares them for C, host/rust for Rust.
 ghost use mathlib.Core.Path.{_≡_};
 ghost use Prim.Native.Nat.{min};
-ghost use Rattle.host.specs.Outcomes.{outcomeOfLog, outcome, numberTold, placeTold};
+ghost use Rattle.latchtwig.specs.Outcomes.{outcomeOfLog, outcome, numberTold, placeTold};
 use dimacs::FORMAT_OR_MODE_UNKNOWN;
 use dimacs::Kind;
 use dimacs::Mode;

@@ -15,7 +15,7 @@ use Rattle.dimacs.proofs.Texts.{OpeningWithin, AllWithin, text-within}
 use Rattle.dimacs.proofs.Logs.{LogSpans, log-spans}
 use Rattle.formula.specs.Whole.{outcomeBy, outcomeOfText, outcomeIn}
 use Rattle.formula.specs.declared.Outcome.{Outcome}
-use Rattle.host.specs.Outcomes.{outcomeByLog, outcomeOfLog, outcomeKind, outcome, placeTold}
+use Rattle.latchtwig.specs.Outcomes.{outcomeByLog, outcomeOfLog, outcomeKind, outcome, placeTold}
 
 -- What a text comes to, comes to a place within it.
 abbrev ToldWithin : List ℕ → Outcome → Type 0

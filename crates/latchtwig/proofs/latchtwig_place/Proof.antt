@@ -1,8 +1,8 @@
--- `host::latchtwig_place` meets its contract, by what the text comes to. Assumes nothing.
+-- `latchtwig::latchtwig_place` meets its contract, by what the text comes to. Assumes nothing.
 use mathlib.Core.Path.{sym, _∙_}
 use borrow.Author.Needs.{needs}
-use Rattle.host.proofs.latchtwig_place.Statement.{statement}
-use Rattle.host.proofs.latchtwig_place.Tie as tie
+use Rattle.latchtwig.proofs.latchtwig_place.Statement.{statement}
+use Rattle.latchtwig.proofs.latchtwig_place.Tie as tie
 
 check-requires : tie.Need-check-requires
 check-requires c κs = search needs

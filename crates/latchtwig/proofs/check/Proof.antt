@@ -1,9 +1,9 @@
--- `host::check` meets its contract: numbers above all bytes name nothing, as the largest byte does. Assumes nothing.
+-- `latchtwig::check` meets its contract: numbers above all bytes name nothing, as the largest byte does. Assumes nothing.
 use mathlib.Core.Path.{_∙_}
-use Rattle.host.proofs.Outcomes.{outcome-narrowed}
+use Rattle.latchtwig.proofs.Outcomes.{outcome-narrowed}
 use borrow.Author.Needs.{needs}
-use Rattle.host.proofs.check.Statement.{statement}
-use Rattle.host.proofs.check.Tie as tie
+use Rattle.latchtwig.proofs.check.Statement.{statement}
+use Rattle.latchtwig.proofs.check.Tie as tie
 
 narrowed-requires : tie.Need-narrowed-requires
 narrowed-requires c κs = search needs

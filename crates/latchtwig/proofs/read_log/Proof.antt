@@ -1,9 +1,9 @@
--- `host::read_log` meets its contract, by what the log reader answers. Assumes nothing.
+-- `latchtwig::read_log` meets its contract, by what the log reader answers. Assumes nothing.
 use mathlib.Core.Path.{refl}
-use Rattle.host.proofs.Outcomes.{log-told}
+use Rattle.latchtwig.proofs.Outcomes.{log-told}
 use borrow.Author.Needs.{needs}
-use Rattle.host.proofs.read_log.Statement.{statement}
-use Rattle.host.proofs.read_log.Tie as tie
+use Rattle.latchtwig.proofs.read_log.Statement.{statement}
+use Rattle.latchtwig.proofs.read_log.Tie as tie
 
 slice-aggregate-parse-log-as : tie.Need-slice-aggregate-parse-log-as
 slice-aggregate-parse-log-as c = search needs
