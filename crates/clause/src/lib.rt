@@ -24,7 +24,7 @@ use dimacs::WEIGHT_TOO_BIG;
 use dimacs::refuse;
 use rows::Row;
 
-// What a list of literals comes to: no number stands at its place; or how many there are and the place past the 0; or a refusal and how many stand before it.
+// What a list of literals comes to: no number stands at its place; or how many there are and the place past the 0 and the blanks after it; or a refusal and how many stand before it.
 pub enum Literals {
     Nothing,
     Closed { count: usize, next: usize },

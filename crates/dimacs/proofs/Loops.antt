@@ -41,14 +41,16 @@ loop-after step over n s = go (step s)
     go (answer a) = refl
 
 module _ {S A : Type 0} (step : S → Step S A) (over : A) (μ : S → ℕ) (falls : (s : S) → Falls μ s (step s)) where
-  pub enough : (n m : ℕ) (s : S) → μ s < n → μ s < m → loop step over n s ≡ loop step over m s
-  enough zero m s h k = absurd (omega arith)
-  enough (suc n) zero s h k = absurd (omega arith)
-  enough (suc n) (suc m) s h k =
+  -- Where more steps are granted than the measure is high, it does not matter how many more, and `over` is not the answer: any other in its stead
+  -- gives the same.
+  pub enough : (other : A) (n m : ℕ) (s : S) → μ s < n → μ s < m → loop step over n s ≡ loop step other m s
+  enough other zero m s h k = absurd (omega arith)
+  enough other (suc n) zero s h k = absurd (omega arith)
+  enough other (suc n) (suc m) s h k =
       loop-after step over n s
-      ∙ after-same (step s) (loop step over n) (loop step over m)
-      (leads-on (step s) (λ s′ l. enough n m s′ (omega arith) (omega arith)) (falls s))
-      ∙ sym (loop-after step over m s)
+      ∙ after-same (step s) (loop step over n) (loop step other m)
+      (leads-on (step s) (λ s′ l. enough other n m s′ (omega arith) (omega arith)) (falls s))
+      ∙ sym (loop-after step other m s)
 
   -- Where more steps are granted than the measure is high, the loop is one step and then the loop.
   pub unrolled : (n : ℕ) (s : S) → μ s < n → loop step over n s ≡ after (step s) (loop step over n)
@@ -56,7 +58,7 @@ module _ {S A : Type 0} (step : S → Step S A) (over : A) (μ : S → ℕ) (fal
   unrolled (suc n) s h =
       loop-after step over n s
       ∙ after-same (step s) (loop step over n) (loop step over (suc n))
-      (leads-on (step s) (λ s′ l. enough n (suc n) s′ (omega arith) (omega arith)) (falls s))
+      (leads-on (step s) (λ s′ l. enough over n (suc n) s′ (omega arith) (omega arith)) (falls s))
 
   -- What each step keeps, and each answer then has, the loop's answer has.
   pub kept : (P : S → Type 0) (Q : A → Type 0) → ((s : S) → P s → Leads P Q (step s)) → (n : ℕ) (s : S) → μ s < n → P s → Q (loop step over n s)

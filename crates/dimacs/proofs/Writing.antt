@@ -50,5 +50,5 @@ unfolding digits
 digits-more n h =
     loop-after nextDigit [] n (before n [])
     ∙ rw (more n [] h)
-    (enough nextDigit [] (λ x. x .left) falls n (suc (n / 10)) (before (n / 10) ((code "0" + n % 10) ∷ [])) (omega arith) (omega arith)
+    (enough nextDigit [] (λ x. x .left) falls [] n (suc (n / 10)) (before (n / 10) ((code "0" + n % 10) ∷ [])) (omega arith) (omega arith)
     ∙ behind (suc (n / 10)) (n / 10) ((code "0" + n % 10) ∷ []) (omega arith))

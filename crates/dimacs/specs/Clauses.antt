@@ -22,7 +22,7 @@ use Rattle.dimacs.specs.declared.Start.the-variants as start
 use Rattle.dimacs.specs.declared.Uint.{Uint}
 use Rattle.dimacs.specs.declared.Uint.the-variants as uint
 
--- What a list of literals comes to: no number stands at its place; they close, at the place past the 0; or a refusal, with the literals before it.
+-- What a list of literals comes to: no number stands at its place; they close, at the place past the 0 and the blanks after it; or a refusal, with the literals before it.
 pub data Literals : Type 0 where
   nothing : Literals
   closed : List ℤ → ℕ → Literals

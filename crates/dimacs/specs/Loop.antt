@@ -7,7 +7,8 @@ pub data Step (S A : Type 0) : Type 0 where
   again : S → Step S A
   answer : A → Step S A
 
--- Steps are taken from s until one answers. At most n are taken; wherever `loop` is used fewer suffice, and `over` is never the answer.
+-- Steps are taken from s until one answers. At most n are taken; wherever `loop` is used fewer suffice, and `over` is never the answer (`enough`,
+-- proofs/Loops.antt).
 unfoldable pub loop : {S A : Type 0} → (S → Step S A) → A → ℕ → S → A
 loop step over zero s = over
 loop step over (suc n) s = elim (step s) [ again s′ ↦ loop step over n s′ | answer a ↦ a ]

@@ -12,7 +12,8 @@ use Rattle.dimacs.specs.declared.Refusal.{Refusal}
 use Rattle.dimacs.specs.declared.Int.{Int}
 use Rattle.dimacs.specs.declared.Int.the-variants as int
 
--- What a row comes to, with all literals so far: it ends at a place where no number stands; its 0 closes it, at the place past the 0; or a refusal.
+-- What a row comes to, with all literals so far: it ends at a place where no number stands; its 0 closes it, at the place past
+-- the 0 and the blanks after it; or a refusal.
 pub data Row : Type 0 where
   ends : ℕ → List ℤ → Row
   closes : ℕ → List ℤ → Row

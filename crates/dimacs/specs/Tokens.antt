@@ -41,7 +41,7 @@ decimal v (d ∷ r) = cond (isDigit d) (decimal (v * 10 + (d - code "0")) r) v
 abbrev pub unmoved : ℕ → ℕ → Bool
 unmoved at e = eqb e at
 
--- By what closes a line: where a line end or the end of the text stands, what follows it, else the second.
+-- By what closes a line: if a line end or the end of the text does, the first, for the place past it; else the second.
 abbrev pub lineEnds : {A : Type 0} → EndOfLine → (ℕ → A) → A → A
 lineEnds (end.Past next) then otherwise = then next
 lineEnds end.Missing then otherwise = otherwise

@@ -156,14 +156,14 @@ pub fn magnitude(literal: i32) -> u64
     wide as u64
 }
 
-// An unsigned number at a place: none, its value and the place past it, or one above its limit.
+// An unsigned number at a place: none, its value and the place past it and the blanks after it, or one above its limit.
 pub enum Uint {
     Missing,
     Value(u64, usize),
     TooBig,
 }
 
-// A signed number at a place: none, the 0 and the place past it, a literal and the place past it, or one beyond its limit.
+// A signed number at a place: none; the 0 or a literal, and the place past it and the blanks after it; or one beyond its limit.
 pub enum Int {
     Missing,
     Zero(usize),

@@ -49,7 +49,7 @@ outcomeAt s room c (final.Refused r) = outcome.Refused r
 abbrev pub outcomeFrom : List ℕ → ℕ → Cursor → Outcome
 outcomeFrom s room c = outcomeAt s room c (c .progress .last)
 
--- A call's answer with the literals that it left in the buffer.
+-- A call's answer, and the literals that it put at the buffer's front.
 pub record Call : Type 0 where
   pub answer : Next
   pub left : List ℤ

@@ -67,7 +67,8 @@ pub struct First {
     pub place: usize,
 }
 
-// The first clause of a text that is opened by the numbers of a format of clauses and a mode: what a caller has of a reader who holds none.
+// How a text opens by the numbers of a format of clauses and a mode, and what the first call then answers: a clause, the end or a refusal. For callers
+// who hold no reader.
 pub fn first_clause(text: &[u8], format: u8, mode: u8, lits: &mut [i32]) -> First
     ensures { λ r. ⌜ ReadsFirst format mode (now (text .entry)) (now (lits .entry)) (now (lits .exit)) r ⌝ }
 {

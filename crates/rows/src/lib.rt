@@ -12,7 +12,7 @@ use dimacs::refuse;
 pub enum Row {
     // It ends at a place where no number stands.
     Ends { place: usize, count: usize },
-    // Its 0 closes it; the place is past the 0.
+    // Its 0 closes it; the place is past the 0 and the blanks after it.
     Closes { place: usize, count: usize },
     Stops { refusal: Refusal, count: usize },
 }
