@@ -2,7 +2,7 @@
 //
 // `open` answers how the text opens, and a reader. Each `next_clause` answers a clause, the end or a refusal, and the reader goes on.
 ghost use mathlib.Core.Path.{_≡_};
-ghost use Rattle.dimacs.specs.Tokens.{stoppedAt};
+ghost use Rattle.token.specs.Words.{WordAt};
 ghost use Rattle.reader.specs.Readers.{openedOn, Reads, ReadsFirst};
 use clause::Next;
 use dimacs::Opening;
@@ -54,7 +54,7 @@ impl<'a> Reader<'a> {
 
     // The word the reader stopped at, as a part of its text: empty at a line end or the end of the text.
     pub fn stopped_at(self) -> &'a [u8]
-        ensures { λ r. ⌜ now r ≡ stoppedAt (now (self .entry .text)) (self .entry .cursor .progress .place) ⌝ }
+        ensures { λ r. ⌜ WordAt (self .entry .text) (self .entry .cursor .progress .place) r ⌝ }
     {
         token::stopped_at(self.text, self.cursor.progress.place)
     }

@@ -1,13 +1,14 @@
 -- The word a reader stopped at: what a search for its end keeps, and the part of the text that it is. Assumes nothing.
 use Prim.Native.Nat.{ℕ, suc, _+_, _-_, _≤_, _<_, min}
 use mathlib.Core.Bool.{Bool, true, false, not}
-use mathlib.Core.List.{List, []}
+use mathlib.Core.List.{List, [], _∷_}
 use mathlib.Core.Path.{_≡_, refl, ap, sym, _∙_}
 use native.Mathlib.Omega.{arith}
 use borrow.Author.Tests.{eq-eqb, ne-eqb, lt-leb}
 use lib.Dec.{eqb}
 use lib.ListN.{length, getD, take, drop, drop-of-length-le}
 use lib.Seq.{take-nil}
+use denote.Ref.{RefT, ptr, now}
 use Rattle.dimacs.specs.Bytes.{isNotStop}
 use Rattle.dimacs.specs.Names.{longestWord}
 use Rattle.dimacs.specs.Tokens.{run, past, lineEnd, wordEnds, stoppedAt}
@@ -15,6 +16,7 @@ use Rattle.dimacs.proofs.Tests.{chosen}
 use Rattle.dimacs.proofs.Past.{past-more, past-stop, past-end}
 use Rattle.dimacs.proofs.Spans.{past-spans}
 use Rattle.token.specs.Parts.{PastWord}
+use Rattle.token.specs.Words.{LiesIn}
 
 -- Up to i the word goes on.
 pub record InWord (s : List ℕ) (at i : ℕ) : Type 0 where
@@ -54,7 +56,7 @@ module _ {s : List ℕ} {at i : ℕ} (w : InWord s at i) where
   pub past-word-end : length s ≤ i → PastWord s at i
   past-word-end h = past-word-by s at i (w .on) (w .inside) (omega (arith, w .on, w .short, w .so, past-end isNotStop s i h))
 
--- The parts of the text that are the word.
+-- Bytes that are the word. Nothing is, at a line end and at the end of the text, wherever it is taken from.
 module _ (s : List ℕ) (at : ℕ) where
   pub stopped-at-word : (e : ℕ) → PastWord s at e → lineEnd s at ≡ at → take (e - at) (drop at s) ≡ stoppedAt s at
   unfolding stoppedAt
@@ -62,14 +64,17 @@ module _ (s : List ℕ) (at : ℕ) where
       let k : e - at ≡ min longestWord (suc (run isNotStop (drop (at + 1) s))) = omega (arith, w .there) in
       rw (k, eq-eqb (lineEnd s at) at h)
 
-  pub stopped-at-line-end : (lineEnd s at ≡ at → ⊥) → take (at - at) (drop at s) ≡ stoppedAt s at
+  pub stopped-at-line-end : {x : List ℕ} → length x ≡ 0 → (lineEnd s at ≡ at → ⊥) → x ≡ stoppedAt s at
   unfolding stoppedAt
-  stopped-at-line-end h =
-      let k : at - at ≡ 0 = omega arith in
-      rw (k, ne-eqb (lineEnd s at) at h)
+  stopped-at-line-end {x = []} k h = rw (ne-eqb (lineEnd s at) at h)
+  stopped-at-line-end {x = b ∷ x} k h = absurd (omega arith)
 
-  pub stopped-at-end : (n : ℕ) → length s ≤ at → take (n - n) (drop n s) ≡ stoppedAt s at
+  pub stopped-at-end : {x : List ℕ} → length x ≡ 0 → length s ≤ at → x ≡ stoppedAt s at
   unfolding stoppedAt
-  stopped-at-end n h =
-      let k : n - n ≡ 0 = omega arith in
-      rw (k, drop-of-length-le s h) (chosen (λ (x : List ℕ). [] ≡ x) (eqb (lineEnd s at) at) (λ _. sym (take-nil (min longestWord (suc (run isNotStop (drop (at + 1) s)))))) (λ _. refl))
+  stopped-at-end {x = []} k h =
+      rw (drop-of-length-le s h) (chosen (λ (x : List ℕ). [] ≡ x) (eqb (lineEnd s at) at) (λ _. sym (take-nil (min longestWord (suc (run isNotStop (drop (at + 1) s)))))) (λ _. refl))
+  stopped-at-end {x = b ∷ x} k h = absurd (omega arith)
+
+-- Two permitted parts have equal bytes and lie at one place.
+pub one-part : {text p₁ p₂ : RefT (List ℕ)} {from : ℕ} {s : List ℕ} → LiesIn text from s p₁ → LiesIn text from s p₂ → (now p₁ ≡ now p₂) × (ptr p₁ ≡ ptr p₂)
+one-part a b = (a .bytes ∙ sym (b .bytes), λ i. ((a .block ∙ sym (b .block)) i, (a .offset ∙ sym (b .offset)) i))

@@ -1,2 +1,3 @@
--- What the contracts of the private functions cite.
+-- What the contracts cite beside the definition of the formats.
 pub mod Parts
+pub mod Words

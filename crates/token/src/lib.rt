@@ -3,8 +3,9 @@
 ghost use mathlib.Core.Path.{_≡_};
 ghost use Prim.Native.Nat.{_<_};
 ghost use lib.ListN.{length};
-ghost use Rattle.dimacs.specs.Tokens.{atEnd, blanks, lineEnd, nextLine, endOfLine, fixed, wordEnds, word, strictComment, newline, linePast, lines, linebreaks, stoppedAt};
+ghost use Rattle.dimacs.specs.Tokens.{atEnd, blanks, lineEnd, nextLine, endOfLine, fixed, wordEnds, word, strictComment, newline, linePast, lines, linebreaks};
 ghost use Rattle.token.specs.Parts.{PastWord};
+ghost use Rattle.token.specs.Words.{WordAt};
 use dimacs::EndOfLine;
 use dimacs::LONGEST_WORD;
 
@@ -206,7 +207,7 @@ fn word_end(text: &[u8], at: usize) -> usize
 
 // The word a reader stopped at, as a part of the text: empty at a line end or the end of the text.
 pub fn stopped_at(text: &[u8], at: usize) -> &[u8]
-    ensures { λ r. ⌜ now r ≡ stoppedAt (now (text .entry)) at ⌝ }
+    ensures { λ r. ⌜ WordAt (text .entry) at r ⌝ }
 {
     let n = text.len();
     if n <= at {

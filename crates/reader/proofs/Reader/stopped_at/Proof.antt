@@ -2,8 +2,8 @@
 use mathlib.Core.Path.{_≡_, refl}
 use mathlib.Core.List.{[], _∷_}
 use denote.Struct.Laws as LL
-use Rattle.walks.proofs.Words.{URA, named, w64, Val, vint, SProp, id⊢, ftrue, flft, Memory, Routine, Heap, Calls, Loops, Atoms, FmC, Fun, givenOf, u8, usize, Is, uint-makes, owns, NamedLft, now, namedLft, shr-slice-lawful, shr-slice-tells, owned, nothing, Triple, cited, says, Given, ‵, _⊛_, _$_, _∵_, !, qed, move, use1, split, fsplit, fjoin, frame, done, keep, whole, sub, look-in, look, stop, fld, from, and-then, no-more, of-opd, returns, load, Params, enters, leaves, whole-of, field-of, puts, lands-in, Callee, calls-by, Walk, ends, proved}
-use Rattle.dimacs.specs.Tokens.{stoppedAt}
+use Rattle.walks.proofs.Words.{URA, named, w64, Val, vint, SProp, id⊢, ftrue, flft, Memory, Routine, Heap, Calls, Loops, Atoms, FmC, Fun, givenOf, u8, usize, Is, uint-makes, owns, NamedLft, namedLft, shr-slice-lawful, shr-slice-tells, owned, nothing, Triple, cited, says, Given, ‵, _⊛_, _$_, _∵_, !, qed, move, use1, split, fsplit, fjoin, frame, done, keep, whole, sub, look-in, look, stop, fld, from, and-then, no-more, of-opd, returns, load, Params, enters, leaves, whole-of, field-of, puts, lands-in, Callee, calls-by, Walk, ends, proved}
+use Rattle.token.specs.Words.{WordAt}
 use Rattle.token.proofs.stopped_at as word
 use Rattle.token.proofs.stopped_at.Symbol as word-def
 use Rattle.token.proofs.stopped_at.Symbol.{name as #word}
@@ -35,7 +35,7 @@ walk 𝓤 H A W mem run C Λ fm known κs qs bounds a g are =
     move ! (9 ∷ []) $ fsplit ! $ use1 W (‵ (Text α (d .text)) ⊛ ‵ (Own α d)) (text-out α 𝓤 H A W d) $ split ! $
     nothing ! $ owned ! usize (Is usize) (uint-makes 𝓤 H A W w64) (d .cursor .progress .place) (vint w64 (d .cursor .progress .place) ∷ []) (refl, wt .1 .1 .0 .0 .0 .fits) $ fjoin ! $ move ! (1 ∷ 0 ∷ []) $ fjoin ! $ move ! (11 ∷ 0 ∷ []) $
     calls-by ! fm word.ended (word.clauses 𝓤 H A mem run) known ((κs, qs, tt, (d .text, (d .cursor .progress .place, tt)), (textVal (d .text) ∷ [], (vint w64 (d .cursor .progress .place) ∷ [], tt))), tt) textVal (shr-slice-tells (named 0) (κs .0) u8) refl (id⊢ 𝓤 _)
-    (λ r ws. now r ≡ stoppedAt (now (d .text)) (d .cursor .progress .place)) (λ r ws. id⊢ 𝓤 _)
+    (λ r ws. WordAt (d .text) (d .cursor .progress .place) r) (λ r ws. id⊢ 𝓤 _)
     (and-then ! (whole-of ! 5 refl) (and-then ! (whole-of ! 3 refl) (no-more !))) (λ r ws e is.
     -- [the word; the token; …; what the reader owns; …; _3; …; _2; …; _1; …; _0; …]
     lands-in ! 11 refl (shr-slice-lawful 𝓤 H A W (named 0) (κs .0) u8 .typed r _ is .0) $
