@@ -1,8 +1,8 @@
 #!/usr/bin/env python3
 """Holds the oracle's answers against those written out by hand.
 
-The texts are those of document 01 ("Texts on both sides", the listing, the slips), those of
-READINGS.md, and some about frames, rooms and words. Prints `N checks, M wrong`.
+The texts are those of document 01 (paper.py), those of READINGS.md, and some about frames, rooms and
+words. Prints `N checks, M wrong`.
 
 Usage: selfcheck.py [PROGRAM [WRITER]]   (by default the oracle as cargo builds it beside this file;
                                           PROGRAM takes texts, and WRITER calls of the writers)
@@ -15,11 +15,10 @@ import sys
 
 sys.path.append(str(pathlib.Path(__file__).resolve().parent.parent / "tools"))
 import frames
+import paper
+from paper import GROUPED, LENIENT, LOG, NONE, PLAIN, STRICT, WEIGHTED, refused
 
-PLAIN, WEIGHTED, GROUPED, LOG = range(4)
-STRICT, LENIENT = range(2)
-
-CASES = []
+CASES = list(paper.CASES)
 
 
 def case(text, *lines, format=PLAIN, mode=STRICT, room=4096):
@@ -27,56 +26,11 @@ def case(text, *lines, format=PLAIN, mode=STRICT, room=4096):
     CASES.append((format, mode, room, text, lines))
 
 
-def refused(number, place, k=0, word=b""):
-    return " ".join(["refused", str(number), str(place), str(k)] + [word.hex()] * bool(word))
-
-
-NONE = "header none"
 NINES = b"9" * 30
 
-# Document 01, "Texts on both sides".
-case(b"", NONE, "end")
-case(b"0", NONE, "clause", "end")
-case(b"1 0 2 0\n", NONE, refused(5, 4, 1, b"2"))
-case(b"1 0\r", NONE, refused(5, 3, 1, b"\r"))
-case(b"p cnf 0 0\n7 0\n", "header 0 0", "clause 7", "end")
-case(b"p cnf 2 1\n3 0\n", "header 2 1", refused(15, 10, 0, b"3"))
-case(b"2147483647 0", NONE, "clause 2147483647", "end")
+# Beside the ends of a literal.
 case(b"-2147483647 0", NONE, "clause -2147483647", "end")
-case(b"-2147483648 0", NONE, refused(15, 0, 0, b"-2147483648"))
 case(b"2147483648 0", NONE, refused(15, 0, 0, b"2147483648"))
-case(b"p cnf 2 2\n1 0\n", "header 2 2", "clause 1", refused(9, 14))
-case(b"p cnf 2 1\n1 0\n2 0\n", "header 2 1", "clause 1", refused(9, 14, 0, b"2"))
-case(b"1 2", NONE, refused(6, 3, 2))
-case(b"1 \nx", NONE, refused(7, 3, 1, b"x"))
-case(b"p cnf\n", refused(2, 5))
-case(b"pcnf 1 1\n", NONE, refused(9, 0, 0, b"pcnf"))
-case(b"1 2 3 0", NONE, refused(16, 4, 2, b"3"), room=2)
-case(
-    b"p gcnf 2 2 1\n{0} 1 0\n{2} 2 0\n",
-    "header 2 2 1",
-    "clause {0}: 1",
-    refused(14, 21, 0, b"{2}"),
-    format=GROUPED,
-)
-case(b"5\n", NONE, refused(8, 2), format=WEIGHTED)
-case(b"s SATISFIABLE \n", refused(5, 13, 0, b" "), format=LOG)
-case(b"v 1 -2\n", refused(19, 7, 2), format=LOG)
-case(b"s UNKNOWN\ns SATISFIABLE\n", refused(18, 10, 0, b"s"), format=LOG)
-case(b"s UNKNOWN\ns SATISFIABLE\n", "verdict unknown", "literals", format=LOG, mode=LENIENT)
-
-# Document 01, the listing.
-case(
-    b"c pull 7\np cnf 3 2\n1 -3 0\n-2\n0\n",
-    "header 3 2",
-    "clause 1 -3",
-    "clause -2",
-    "end",
-)
-
-# Document 01, the slips: a clause count of 0, and a number that runs into a letter.
-case(b"p cnf 2 0\n1 0\n2 0\n", "header 2 0", "clause 1", "clause 2", "end")
-case(b"99999999999999999999x", NONE, refused(9, 0, 0, b"99999999999999999999x"))
 
 # READINGS.md, row by row.
 case(b"v  ", refused(19, 3), format=LOG)

@@ -1,0 +1,119 @@
+#!/usr/bin/env python3
+"""The texts of document 01 with their answers, written out by hand from it and not from any code.
+
+Usage: paper.py DIRECTORY
+
+The frames go to DIRECTORY/stdin and the answers, as a transcript, to DIRECTORY/stdout.
+
+They are the texts marked P, the others of "Texts on both sides", the listing's text, and the slips. A text is there in the format and mode that document 01 names for
+it. For a slip it names none: its text is there in every format and both modes, and so is the same slip in the form of a weighted text, a grouped text and a log.
+"""
+
+import os
+import pathlib
+import sys
+
+sys.path.append(str(pathlib.Path(__file__).resolve().parent.parent / "tools"))
+import frames
+
+PLAIN, WEIGHTED, GROUPED, LOG = range(4)
+STRICT, LENIENT = range(2)
+
+# The room that the tray and the host calls have.
+ROOM = 1024
+
+NONE = "header none"
+UNKNOWN = "verdict unknown", "literals"
+
+# Each case: format, mode, room, text, and the lines that must follow its `case N`.
+CASES = []
+
+
+def refused(number, place, k=0, word=b""):
+    return " ".join(["refused", str(number), str(place), str(k)] + [word.hex()] * bool(word))
+
+
+def case(text, *lines, format=PLAIN, mode=STRICT, room=ROOM):
+    CASES.append((format, mode, room, text, lines))
+
+
+def both(text, *lines, format):
+    """The modes read alike."""
+    for mode in STRICT, LENIENT:
+        case(text, *lines, format=format, mode=mode)
+
+
+def slip(text, plain, weighted, grouped):
+    """A text of clauses, with its lines in each format. As a log it has no line of any kind."""
+    for format, lines in (PLAIN, plain), (WEIGHTED, weighted), (GROUPED, grouped):
+        both(text, *lines, format=format)
+    case(text, refused(18, 0, 0, text.split()[0]), format=LOG)
+    case(text, *UNKNOWN, format=LOG, mode=LENIENT)
+
+
+# "Texts on both sides", marked P.
+case(b"", NONE, "end")
+case(b"0", NONE, "clause", "end")
+case(b"1 0 2 0\n", NONE, refused(5, 4, 1, b"2"))
+case(b"p cnf 0 0\n7 0\n", "header 0 0", "clause 7", "end")
+case(b"p cnf 2 1\n3 0\n", "header 2 1", refused(15, 10, 0, b"3"))
+case(b"p cnf 2 2\n1 0\n", "header 2 2", "clause 1", refused(9, 14))
+case(b"p cnf 2 1\n1 0\n2 0\n", "header 2 1", "clause 1", refused(9, 14, 0, b"2"))
+case(b"1 2", NONE, refused(6, 3, 2))
+case(b"1 \nx", NONE, refused(7, 3, 1, b"x"))
+case(b"p gcnf 2 2 1\n{0} 1 0\n{2} 2 0\n", "header 2 2 1", "clause {0}: 1", refused(14, 21, 0, b"{2}"), format=GROUPED)
+case(b"5\n", NONE, refused(8, 2), format=WEIGHTED)
+case(b"s SATISFIABLE \n", refused(5, 13, 0, b" "), format=LOG)
+case(b"v 1 -2\n", refused(19, 7, 2), format=LOG)
+case(b"s UNKNOWN\ns SATISFIABLE\n", refused(18, 10, 0, b"s"), format=LOG)
+case(b"s UNKNOWN\ns SATISFIABLE\n", *UNKNOWN, format=LOG, mode=LENIENT)
+
+# The others there, and the text of the listing.
+case(b"1 0\r", NONE, refused(5, 3, 1, b"\r"))
+case(b"2147483647 0", NONE, "clause 2147483647", "end")
+case(b"-2147483648 0", NONE, refused(15, 0, 0, b"-2147483648"))
+case(b"p cnf\n", refused(2, 5))
+case(b"pcnf 1 1\n", NONE, refused(9, 0, 0, b"pcnf"))
+case(b"1 2 3 0", NONE, refused(16, 4, 2, b"3"), room=2)
+case(b"c pull 7\np cnf 3 2\n1 -3 0\n-2\n0\n", "header 3 2", "clause 1 -3", "clause -2", "end")
+
+# A slip: clauses are split at 0 alone.
+slip(b"1 0 2 0", (NONE, refused(5, 4, 1, b"2")), (NONE, refused(5, 4, 0, b"2")), (NONE, refused(9, 0, 0, b"1")))
+both(b"5 1 0 5 2 0", NONE, refused(5, 6, 1, b"5"), format=WEIGHTED)
+both(b"{1} 1 0 {1} 2 0", NONE, refused(5, 8, 1, b"{1}"), format=GROUPED)
+both(b"v 1 0 2 0", refused(5, 6, 1, b"2"), format=LOG)
+
+# A slip: a clause count of 0 is taken for "no clauses".
+other = [refused(1, 2, 0, b"cnf")]
+slip(b"p cnf 2 0\n1 0\n2 0\n", ("header 2 0", "clause 1", "clause 2", "end"), other, other)
+both(b"p wcnf 2 0 9\n5 1 0\n5 2 0\n", "header 2 0 9", "clause 5: 1", "clause 5: 2", "end", format=WEIGHTED)
+both(b"p gcnf 2 0 9\n{1} 1 0\n{1} 2 0\n", "header 2 0 9", "clause {1}: 1", "clause {1}: 2", "end", format=GROUPED)
+
+# A slip: 15, or 13 or 14, for digits that overflow but end in a letter. Such a word is no number, at a clause's start and after a literal; the digits alone are one.
+NINES = b"9" * 20
+WORD = NINES + b"x"
+none = NONE, refused(9, 0, 0, WORD)
+slip(WORD, none, none, none)
+slip(b"1 " + WORD, (NONE, refused(6, 2, 1, WORD)), (NONE, refused(8, 2, 0, WORD)), (NONE, refused(9, 0, 0, b"1")))
+both(b"5 1 " + WORD, NONE, refused(6, 4, 1, WORD), format=WEIGHTED)
+both(b"{" + WORD + b"} 1 0", NONE, refused(9, 0, 0, b"{" + WORD + b"}"), format=GROUPED)
+both(b"{1} 1 " + WORD, NONE, refused(6, 6, 1, WORD), format=GROUPED)
+both(b"v 1 " + WORD, refused(5, 4, 1, WORD), format=LOG)
+slip(NINES, (NONE, refused(15, 0, 0, NINES)), (NONE, refused(13, 0, 0, NINES)), (NONE, refused(9, 0, 0, NINES)))
+both(b"{" + NINES + b"} 1 0", NONE, refused(14, 0, 0, b"{" + NINES + b"}"), format=GROUPED)
+both(b"v 1 " + NINES, refused(15, 4, 1, NINES), format=LOG)
+
+
+def main():
+    if len(sys.argv) != 2:
+        sys.exit(__doc__)
+    os.makedirs(sys.argv[1], exist_ok=True)
+    with open(os.path.join(sys.argv[1], "stdin"), "wb") as given, open(os.path.join(sys.argv[1], "stdout"), "w") as said:
+        for number, (*one, lines) in enumerate(CASES):
+            given.write(frames.case(*one))
+            said.write("".join(f"{line}\n" for line in (f"case {number}", *lines)))
+    print(f"{len(CASES)} cases of document 01")
+
+
+if __name__ == "__main__":
+    main()
