@@ -1,0 +1,146 @@
+"""Checks files in any format and mode.
+
+usage: tools/check FORMAT MODE [FILE...]    (FORMAT plain, weighted, grouped or log; MODE strict or lenient)
+
+For each FILE, or for standard input (`-`, or none named), one line says that it is accepted, a log with its verdict, or how it is refused: the number, the
+place, and what is expected there. The program `reader_cases` reads the files; it is proved and built first.
+
+Exit status: 0 if every file is accepted, 1 if one is refused. It is 2 if the words are wrong, if a file cannot be read or has more than 65,536 bytes, if what is found
+cannot be written, or if `reader_cases` cannot be run; standard error then has a line that says so.
+
+65,536 bytes are all that `reader_cases` takes of a text; the host calls (host/latchtwig.h, host/rust) take any length. A clause, or a whole log, has room for 4,096
+literals here and for 1,024 in the host calls.
+"""
+
+import contextlib
+import os
+import re
+import signal
+import subprocess
+import sys
+
+sys.dont_write_bytecode = True
+from frames import LONGEST
+from refusals import NUMBERS, WORDS
+from solvers import ROOM, answers
+
+FORMATS = ["plain", "weighted", "grouped", "log"]
+MODES = ["strict", "lenient"]
+
+
+class Stop(Exception):
+    """Why nothing more can be told."""
+
+
+def shown(name):
+    """A name on one line, whatever its bytes are."""
+    text = os.fsencode(name).decode(errors="backslashreplace")
+    return "".join(c if c.isprintable() else ascii(c)[1:-1] for c in text)
+
+
+def complain(why):
+    """A line on standard error, if there is one that takes it: the exit status tells too."""
+    if sys.stderr is not None:
+        with contextlib.suppress(OSError):
+            print(why, file=sys.stderr)
+
+
+def words(number):
+    """What a refusal says. Where the buffer is full the table names the room of the host calls, which is another here."""
+    return re.sub(r"\d+", str(ROOM), WORDS[number]) if number == NUMBERS["BUFFER_FULL"] else WORDS[number]
+
+
+def opened(file):
+    if file != "-":
+        return open(file, "rb")
+    if sys.stdin is None:
+        raise OSError(0, "it is closed, or a directory")
+    return sys.stdin.buffer
+
+
+def texts(files):
+    """The name and the text of each file that `reader_cases` can be given. What is wrong with the others is told."""
+    for file in files:
+        name = shown(file) if file != "-" else "standard input"
+        try:
+            with opened(file) as source:
+                text = source.read(LONGEST + 1)
+        except OSError as error:
+            complain(f"check: {name}: {error.strerror}")
+            continue
+        if len(text) > LONGEST:
+            complain(f"check: {name}: more than {LONGEST} bytes; the host calls take any length (host/latchtwig.h, host/rust)")
+            continue
+        yield name, text
+
+
+def verdict(lines):
+    """One line for what `reader_cases` says of a text."""
+    first, last = lines[0].split(), lines[-1].split()
+    if last[0] == "refused":
+        return f"refused {last[1]} at byte {last[2]}: {words(int(last[1]))}"
+    if first[0] == "verdict" and last[0] == "literals":
+        return f"accepted, {lines[0]}"
+    if last == ["end"]:
+        return "accepted"
+    raise ValueError(lines[-1])
+
+
+def verdicts(format, mode, given):
+    """One line for each text. Nothing is told of any if the program does not answer each as it should."""
+    try:
+        said = [verdict(lines) for lines in answers(*((format, mode, text) for _, text in given))] if given else []
+    except (OSError, subprocess.CalledProcessError):
+        raise Stop("check: the program reader_cases cannot be run")
+    except (IndexError, KeyError, ValueError):
+        raise Stop("check: the program reader_cases answers something else than a verdict")
+    if len(said) != len(given):
+        raise Stop(f"check: the program reader_cases answers {len(said)} of {len(given)} texts")
+    return said
+
+
+def tell(text):
+    try:
+        if sys.stdout is None:
+            raise OSError(0, "it is closed")
+        print(text, flush=True)
+    except OSError as error:
+        # What could not be written would be tried again at the end.
+        os.dup2(os.open(os.devnull, os.O_WRONLY), 1)
+        raise Stop(f"check: standard output: {error.strerror}")
+
+
+def status(arguments):
+    if arguments in (["-h"], ["--help"]):
+        tell(__doc__.strip())
+        return 0
+    format, mode, *files = arguments if len(arguments) >= 2 else [None, None]
+    if format not in FORMATS or mode not in MODES:
+        raise Stop(__doc__.split("\n")[2])
+    files = files or ["-"]
+    if files.count("-") > 1:
+        raise Stop("check: standard input can be read once only")
+    given = list(texts(files))
+    said = verdicts(FORMATS.index(format), MODES.index(mode), given)
+    if given:
+        tell("\n".join(f"{name}: {told}" for (name, _), told in zip(given, said)))
+    if len(given) < len(files):
+        return 2
+    return 1 if any(told.startswith("refused") for told in said) else 0
+
+
+def main():
+    signal.signal(signal.SIGINT, signal.SIG_DFL)
+    for stream in (sys.stdout, sys.stderr):
+        if stream is not None:
+            stream.reconfigure(errors="backslashreplace")
+    try:
+        sys.exit(status(sys.argv[1:]))
+    except Stop as why:
+        complain(why)
+    except Exception as fault:
+        complain(f"check: a fault of its own: {fault!r}")
+    sys.exit(2)
+
+
+main()
