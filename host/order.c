@@ -7,6 +7,10 @@
 int main(void) {
     static uint8_t text[1 << 20];
     size_t length = fread(text, 1, sizeof text, stdin);
+    if (ferror(stdin)) {
+        perror("standard input");
+        return 2;
+    }
     if (length == sizeof text) {
         fputs("too long\n", stderr);
         return 2;

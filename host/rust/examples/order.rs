@@ -4,17 +4,20 @@ use latchtwig::{check, Format, Mode};
 use std::io::{self, Read};
 use std::process::ExitCode;
 
-fn main() -> io::Result<ExitCode> {
+fn main() -> ExitCode {
     let mut order = Vec::new();
-    io::stdin().read_to_end(&mut order)?;
+    if let Err(error) = io::stdin().read_to_end(&mut order) {
+        eprintln!("standard input: {error}");
+        return ExitCode::from(2);
+    }
     match check(Format::Plain, Mode::Strict, &order) {
         Ok(()) => {
             println!("accepted");
-            Ok(ExitCode::SUCCESS)
+            ExitCode::SUCCESS
         }
         Err(refusal) => {
             println!("{refusal}");
-            Ok(ExitCode::FAILURE)
+            ExitCode::FAILURE
         }
     }
 }
