@@ -93,6 +93,12 @@ case(b"s SATISFIABLE\nv 1\nc x\nv -2 0\n", "verdict yes", "literals 1 -2", forma
 case(b"v 0\nv 1 0\n", refused(18, 4, 0, b"v"), format=LOG)
 case(b"v 0\nv 1 0\n", "verdict unknown", "literals", format=LOG, mode=LENIENT)
 
+# A last line that is passed over and that the text's end cuts off.
+case(b"1\n c", NONE, refused(7, 4, 1))
+case(b"v 1\nc x", refused(19, 7, 1), format=LOG)
+case(b"v 1\nx", refused(19, 5, 1), format=LOG, mode=LENIENT)
+case(b"s UNKNOWN\nv 1\ns UNKNOWN", refused(19, 23, 1), format=LOG, mode=LENIENT)
+
 # Room: a literal's range comes before it, zero needs none, and each clause has its own.
 case(b"1 0\n2 0\n", NONE, "clause 1", "clause 2", "end", room=1)
 case(b"0\n1 0", NONE, "clause", refused(16, 2, 0, b"1"), room=0)

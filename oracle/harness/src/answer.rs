@@ -7,6 +7,7 @@ use flussab_cnf::{cnf, gcnf, sat_solver_log, wcnf, ParseError};
 
 use crate::{
     lit::{self, Lit},
+    position::Kind,
     refusal::Refusal,
 };
 
@@ -114,7 +115,9 @@ fn clauses<'a, P: Clauses<'a>>(
 ) -> io::Result<()> {
     let mut parser = match P::open(LineReader::new(DeferredReader::from_slice(text)), lenient) {
         Ok(parser) => parser,
-        Err(error) => return Refusal::of(*error, room, text).write(text, transcript),
+        Err(error) => {
+            return Refusal::of(*error, room, text, Kind::Clauses).write(text, transcript)
+        }
     };
     match parser.opened_header() {
         None => writeln!(transcript, "header none")?,
@@ -132,7 +135,9 @@ fn clauses<'a, P: Clauses<'a>>(
         let (extra, lits) = match parser.next() {
             Ok(Some(clause)) => clause,
             Ok(None) => return writeln!(transcript, "end"),
-            Err(error) => return Refusal::of(*error, room, text).write(text, transcript),
+            Err(error) => {
+                return Refusal::of(*error, room, text, Kind::Clauses).write(text, transcript)
+            }
         };
         assert!(lit::are(lits), "literals noted and answered differ");
         if let Some(refusal) = Refusal::of_room(room) {
@@ -150,11 +155,16 @@ fn clauses<'a, P: Clauses<'a>>(
 
 fn log(lenient: bool, room: usize, text: &[u8], transcript: &mut Vec<u8>) -> io::Result<()> {
     let config = sat_solver_log::Config::default().ignore_unknown_lines(lenient);
+    let kind = if lenient {
+        Kind::LenientLog
+    } else {
+        Kind::StrictLog
+    };
     let mut reader = LineReader::new(DeferredReader::from_slice(text));
     // Room and k count over the whole log.
     let log = match sat_solver_log::parse_log::<Lit>(&mut reader, config) {
         Ok(log) => log,
-        Err(error) => return Refusal::of(*error, room, text).write(text, transcript),
+        Err(error) => return Refusal::of(*error, room, text, kind).write(text, transcript),
     };
     assert!(
         lit::are(&log.assignment),

@@ -4,6 +4,7 @@
 
 mod answer;
 mod lit;
+mod position;
 mod refusal;
 mod written;
 

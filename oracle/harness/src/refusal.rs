@@ -4,13 +4,18 @@ use std::io::{self, Write};
 
 use flussab_cnf::InnerParseError;
 
-use crate::lit;
+use crate::{
+    lit,
+    position::{Kind, Position},
+};
 
-/// The number, the place as a byte offset, and k.
+/// The number, the place as a byte offset, and k; and where the crate says that it stopped, if that
+/// is elsewhere.
 pub struct Refusal {
     number: u8,
     place: usize,
     k: usize,
+    elsewhere: Option<Position>,
 }
 
 /// How the crate's messages begin, and the number that document 01's table gives for it. An
@@ -57,17 +62,27 @@ impl Refusal {
     /// The refusal that document 01 gives to a text at which the crate stopped with this error, in a
     /// clause or log that there is so much room for.
     ///
-    /// The number is told by how the message begins, and the place is the error's own. Literals are
-    /// counted as `lit` tells.
-    pub fn of(error: InnerParseError, room: usize, text: &[u8]) -> Refusal {
-        // The literal without room stood in the text before whatever the crate stopped at.
-        if let Some(refusal) = Refusal::of_room(room) {
-            return refusal;
-        }
+    /// The number is told by how the message begins, and the place is the error's own, to which its
+    /// line and column are held. Literals are counted as `lit` tells.
+    pub fn of(error: InnerParseError, room: usize, text: &[u8], kind: Kind) -> Refusal {
         let error = match error {
             InnerParseError::SyntaxError(error) => error,
             InnerParseError::IoError(error) => panic!("a text in memory gave {error}"),
         };
+        let reported = Position {
+            line: error.line,
+            column: error.column,
+        };
+        let agree = reported == Position::of(error.place, text, kind);
+        let elsewhere = (!agree).then_some(reported);
+
+        // The literal without room stood in the text before whatever the crate stopped at.
+        if let Some(refusal) = Refusal::of_room(room) {
+            return Refusal {
+                elsewhere,
+                ..refusal
+            };
+        }
         let (beginning, number) = BEGINNINGS
             .into_iter()
             .find(|(beginning, _)| error.message.starts_with(beginning))
@@ -86,6 +101,7 @@ impl Refusal {
             number,
             place: error.place,
             k: lit::count(),
+            elsewhere,
         }
     }
 
@@ -96,6 +112,7 @@ impl Refusal {
             number: 16,
             place,
             k: room,
+            elsewhere: None,
         })
     }
 
@@ -105,11 +122,13 @@ impl Refusal {
             number: 26,
             place: 0,
             k: 0,
+            elsewhere: None,
         }
     }
 
     /// Writes the transcript's line. The word it stopped at is that of the text; where none is at
-    /// fault the text to give is empty.
+    /// fault the text to give is empty. Where the crate stopped elsewhere a line says so, which no
+    /// program answers: the case differs.
     pub fn write(&self, text: &[u8], transcript: &mut Vec<u8>) -> io::Result<()> {
         write!(
             transcript,
@@ -123,7 +142,11 @@ impl Refusal {
         for byte in word {
             write!(transcript, "{byte:02x}")?;
         }
-        writeln!(transcript)
+        writeln!(transcript)?;
+        if let Some(Position { line, column }) = self.elsewhere {
+            writeln!(transcript, "elsewhere {line} {column}")?;
+        }
+        Ok(())
     }
 }
 
@@ -146,5 +169,36 @@ fn found(text: &[u8], place: usize) -> String {
         [] if place < text.len() => "end of line".to_string(),
         [] => "end of file".to_string(),
         word => format!("{:?}", String::from_utf8_lossy(word)),
+    }
+}
+
+#[cfg(test)]
+mod tests {
+    use flussab::text::SyntaxError;
+
+    use super::*;
+
+    /// What is written of an error in `1\n x` at the `x`, with this line and column.
+    fn written(line: usize, column: usize, room: usize) -> String {
+        let text = b"1\n x";
+        let error = SyntaxError {
+            message: "expected literal, terminating zero or comment, found \"x\"".to_string(),
+            place: 3,
+            line,
+            column,
+        };
+        let error = InnerParseError::SyntaxError(error);
+        let mut transcript = vec![];
+        Refusal::of(error, room, text, Kind::Clauses)
+            .write(text, &mut transcript)
+            .unwrap();
+        String::from_utf8(transcript).unwrap()
+    }
+
+    #[test]
+    fn a_wrong_line_or_column_is_told() {
+        assert_eq!(written(2, 2, 8), "refused 7 3 0 78\n");
+        assert_eq!(written(1, 2, 8), "refused 7 3 0 78\nelsewhere 1 2\n");
+        assert_eq!(written(2, 1, 8), "refused 7 3 0 78\nelsewhere 2 1\n");
     }
 }
