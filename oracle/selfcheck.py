@@ -1,8 +1,8 @@
 #!/usr/bin/env python3
 """Holds the oracle's answers against those written out by hand.
 
-The texts are those of document 01 (paper.py), those of READINGS.md, and some about frames, rooms and
-words. Prints `N checks, M wrong`.
+The texts are those of document 01 (paper.py), those of READINGS.md, those of docs/DIFFERENCES.md under
+"What strict takes", and some about frames, rooms and words. Prints `N checks, M wrong`.
 
 Usage: selfcheck.py [PROGRAM [WRITER]]   (by default the oracle as cargo builds it beside this file;
                                           PROGRAM takes texts, and WRITER calls of the writers)
@@ -16,7 +16,7 @@ import sys
 sys.path.append(str(pathlib.Path(__file__).resolve().parent.parent / "tools"))
 import frames
 import paper
-from paper import GROUPED, LENIENT, LOG, NONE, PLAIN, STRICT, WEIGHTED, refused
+from paper import GROUPED, LENIENT, LOG, NONE, PLAIN, STRICT, UNKNOWN, WEIGHTED, refused
 
 CASES = list(paper.CASES)
 
@@ -92,6 +92,57 @@ case(b"s UNSATISFIABLE\r\nv 0", "verdict no", "literals", format=LOG)
 case(b"s SATISFIABLE\nv 1\nc x\nv -2 0\n", "verdict yes", "literals 1 -2", format=LOG)
 case(b"v 0\nv 1 0\n", refused(18, 4, 0, b"v"), format=LOG)
 case(b"v 0\nv 1 0\n", "verdict unknown", "literals", format=LOG, mode=LENIENT)
+
+# Odd texts that the strict mode takes: docs/DIFFERENCES.md, "What strict takes", row by row.
+case(b"\n", NONE, "end")
+case(b"c", NONE, "end")
+case(b"cnf 1 1", NONE, "end")
+case(b"cnf 1 1\n2 0\n3 0\n", NONE, "clause 2", "clause 3", "end")
+case(b"c1 0", NONE, "end")
+case(b"c\0", NONE, "end")
+case(b"1 0", NONE, "clause 1", "end")
+case(b"p cnf 0 0\n1 0", "header 0 0", "clause 1", "end")
+case(b"p cnf 0 0", "header 0 0", "end")
+case(b"p cnf 1 0", "header 1 0", "end")
+case(b"p cnf 0 1\n0\nc", "header 0 1", "clause", "end")
+case(b"1\n2 0", NONE, "clause 1 2", "end")
+case(b"1\nc\n0", NONE, "clause 1", "end")
+case(b" 0\t", NONE, "clause", "end")
+case(b"\n\r\n", NONE, "end")
+case(b"-0", NONE, "clause", "end")
+case(b"01 0", NONE, "clause 1", "end")
+case(b"1 1 0", NONE, "clause 1 1", "end")
+case(b"1 -1 0", NONE, "clause 1 -1", "end")
+case(b"0\n0", NONE, "clause", "clause", "end")
+case(b"5 1 0", NONE, "clause 5 1", "end")
+case(b"1 2 0", NONE, "clause 1: 2", "end", format=WEIGHTED)
+case(b"0 0", NONE, "clause 0:", "end", format=WEIGHTED)
+case(b"p wcnf 0 0 1\n2 0", "header 0 0 1", "clause 2:", "end", format=WEIGHTED)
+case(b"5\n0", NONE, "clause 5:", "end", format=WEIGHTED)
+case(b"{9}0", NONE, "clause {9}:", "end", format=GROUPED)
+case(b"p gcnf 0 0 0\n{9}0", "header 0 0 0", "clause {9}:", "end", format=GROUPED)
+case(b"p gcnf 0 0 9", "header 0 0 9", "end", format=GROUPED)
+case(b"p gcnf 0 0 9\n{0}0", "header 0 0 9", "clause {0}:", "end", format=GROUPED)
+case(b"", *UNKNOWN, format=LOG)
+case(b"c ", *UNKNOWN, format=LOG)
+case(b"s SATISFIABLE", "verdict yes", "literals", format=LOG)
+case(b"s UNSATISFIABLE\nv 1 0", "verdict no", "literals 1", format=LOG)
+case(b"v 1 0", "verdict unknown", "literals 1", format=LOG)
+case(b"v 0\ns UNKNOWN", *UNKNOWN, format=LOG)
+case(b"v \nv 0", *UNKNOWN, format=LOG)
+case(b"v 1 -1 0", "verdict unknown", "literals 1 -1", format=LOG)
+
+# Near them, and refused.
+case(b"wcnf 1 1 1", NONE, refused(9, 0, 0, b"wcnf"), format=WEIGHTED)
+case(b"gcnf 1 1 1", NONE, refused(9, 0, 0, b"gcnf"), format=GROUPED)
+case(b"P cnf 1 1", NONE, refused(9, 0, 0, b"P"))
+case(b"p CNF 1 1", refused(1, 2, 0, b"CNF"))
+case(b"p cnf 0 0\np cnf 0 0", "header 0 0", refused(9, 10, 0, b"p"))
+case(b"0\np cnf 0 1", NONE, "clause", refused(9, 2, 0, b"p"))
+case(b"p cnf 1 2\n1\n1 0", "header 1 2", "clause 1 1", refused(9, 15))
+case(b"p cnf 1 -0", refused(3, 8, 0, b"-0"))
+case(b"\xef\xbb\xbf0", NONE, refused(9, 0, 0, b"\xef\xbb\xbf0"))
+case(b"\n", refused(18, 0), format=LOG)
 
 # A last line that is passed over and that the text's end cuts off.
 case(b"1\n c", NONE, refused(7, 4, 1))
