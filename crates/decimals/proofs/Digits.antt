@@ -1,5 +1,5 @@
 -- How long a number is in decimal, and its digits stored from the last to the first. Assumes nothing.
-use Prim.Native.Nat.{ℕ, zero, suc, _+_, _-_, _/_, _%_, _≤_, _<_}
+use Prim.Native.Nat.{ℕ, zero, suc, _+_, _-_, _*_, _/_, _%_, _≤_, _<_}
 use Prim.Native.Char.{code}
 use mathlib.Core.List.{List, [], _∷_, _++_}
 use mathlib.Core.Path.{_≡_, ap, sym, _∙_}
@@ -32,6 +32,19 @@ bounded-below (suc m) n h =
 
 pub digits-bounded : (n : ℕ) → DigitsBounded n
 digits-bounded n = bounded-below (suc n) n (omega arith)
+
+-- One and so many noughts behind it.
+abbrev pub tens : ℕ → ℕ
+tens zero = 1
+tens (suc k) = tens k * 10
+
+-- A number below that has no more digits.
+pub digits-below : (k n : ℕ) → n < tens (suc k) → length (digits n) ≤ suc k
+digits-below zero n h = omega (arith, one-long n (omega arith))
+digits-below (suc k) n h =
+    tested (ltb n 10)
+    (λ e. omega (arith, one-long n (ltb-true n 10 e)))
+    (λ e. omega (arith, more-long n (ltb-false n 10 e), digits-below k (n / 10) (omega arith)))
 
 -- Some digits of a number are counted, and some are left.
 pub record Tallied (n left count : ℕ) : Type 0 where

@@ -1,10 +1,11 @@
--- A piece is put where there is room for it. Assumes nothing.
-use Prim.Native.Nat.{ℕ, _+_, _≤_, _<_}
-use mathlib.Core.List.{List}
-use mathlib.Core.Path.{_≡_, refl, sym, _∙_}
+-- A piece is put where there is room for it, and pieces one after the other. Assumes nothing.
+use Prim.Native.Nat.{ℕ, suc, _+_, _≤_, _<_}
+use mathlib.Core.List.{List, [], _∷_, _++_}
+use mathlib.Core.Path.{_≡_, refl, ap, sym, _∙_}
 use native.Mathlib.Omega.{arith}
 use borrow.Author.Tests.{le-leb, lt-leb}
-use lib.ListN.{length}
+use lib.ListN.{length, set, length-append}
+use lib.Seq.{sets, length-sets}
 use Rattle.decimals.specs.Pieces.{PutAt, ifRoom}
 
 module _ (at : ℕ) (piece old : List ℕ) where
@@ -24,3 +25,22 @@ module _ (at : ℕ) (piece old : List ℕ) where
 -- Two answers that the contract permits are equal, and leave the same output.
 pub one-piece : {at : ℕ} {piece old n₁ n₂ : List ℕ} {r₁ r₂ : ℕ} → PutAt at piece old n₁ r₁ → PutAt at piece old n₂ r₂ → (r₁ ≡ r₂) × (n₁ ≡ n₂)
 one-piece a b = (a .past ∙ sym (b .past), a .output ∙ sym (b .output))
+
+pub sets-append : {A : Type 0} (a b l : List A) (at : ℕ) → sets l at (a ++ b) ≡ sets (sets l at a) (at + length a) b
+sets-append [] b l at = ap (λ k. sets l k b) (omega arith)
+sets-append (x ∷ a) b l at = sets-append a b (set l at x) (suc at) ∙ ap (λ k. sets (sets (set l at x) (suc at) a) k b) (omega arith)
+
+-- No piece is put.
+pub put-nothing : (at : ℕ) (old : List ℕ) → PutAt at [] old old at
+put-nothing at old = record { past = omega arith; output = refl }
+
+-- A piece, and another from where it ends.
+pub put-then : {at : ℕ} {a b old mid new : List ℕ} {i r : ℕ} → PutAt at a old mid i → PutAt i b mid new r → PutAt at (a ++ b) old new r
+put-then {at} {a} {b} {old} {mid} {new} {i} {r} h k =
+    record {
+      past = omega (arith, h .past, k .past, length-append a b);
+      output = k .output ∙ rw (h .output, h .past) (sym (sets-append a b old at));
+    }
+
+pub put-keeps-length : {at : ℕ} {a old new : List ℕ} {r : ℕ} → PutAt at a old new r → length new ≡ length old
+put-keeps-length {at} {a} {old} h = ap length (h .output) ∙ length-sets old at a

@@ -13,7 +13,8 @@ use Rattle.dimacs.specs.Bytes.{bytes}
 use Rattle.dimacs.specs.Names.{ceiling}
 use Rattle.dimacs.specs.Writing.{signedDigits, item, items, isLiteral}
 use Rattle.decimals.specs.Pieces.{PutAt}
-use Rattle.writer.proofs.Pieces.{put-keeps-length, put-nothing, put-then, put-before}
+use Rattle.decimals.proofs.Pieces.{put-keeps-length, put-nothing, put-then}
+use Rattle.writer.proofs.Pieces.{put-before}
 
 -- The two tests of a literal.
 module _ (l : ℤ) {size : ℕ} (e : size ≡ natAbs l) where

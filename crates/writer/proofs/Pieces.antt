@@ -1,5 +1,5 @@
--- Pieces of a line put one after the other. Assumes nothing.
-use Prim.Native.Nat.{ℕ, suc, _+_, _≤_, _<_}
+-- Pieces of a line put with room for the rest. Assumes nothing.
+use Prim.Native.Nat.{ℕ, _+_, _≤_, _<_}
 use mathlib.Core.List.{List, [], _∷_, _++_}
 use mathlib.Core.Path.{_≡_, refl, ap, sym, _∙_}
 use native.Mathlib.Numerals.{add-one}
@@ -9,29 +9,11 @@ use lib.ListN.{length, getD, set, take, length-append}
 use lib.Seq.{sets, length-sets, take-suc, take-all, length-take-le}
 use Rattle.dimacs.proofs.Tests.{chosen}
 use Rattle.decimals.specs.Pieces.{PutAt, ifRoom}
-use Rattle.decimals.proofs.Pieces.{puts-whole}
-
-sets-append : {A : Type 0} (a b l : List A) (at : ℕ) → sets l at (a ++ b) ≡ sets (sets l at a) (at + length a) b
-sets-append [] b l at = ap (λ k. sets l k b) (omega arith)
-sets-append (x ∷ a) b l at = sets-append a b (set l at x) (suc at) ∙ ap (λ k. sets (sets (set l at x) (suc at) a) k b) (omega arith)
+use Rattle.decimals.proofs.Pieces.{puts-whole, sets-append, put-nothing, put-then, put-keeps-length}
 
 -- No piece is put, whatever room there is.
-pub put-nothing : (at : ℕ) (old : List ℕ) → PutAt at [] old old at
-put-nothing at old = record { past = omega arith; output = refl }
-
 pub put-nothing-if-room : (at : ℕ) (old : List ℕ) → PutAt at (ifRoom at [] old) old old at
 put-nothing-if-room at old = chosen (λ piece. PutAt at piece old old at) (leb (at + length {A = ℕ} []) (length old)) (λ t. put-nothing at old) (λ t. put-nothing at old)
-
--- A piece, and another from where it ends.
-pub put-then : {at : ℕ} {a b old mid new : List ℕ} {i r : ℕ} → PutAt at a old mid i → PutAt i b mid new r → PutAt at (a ++ b) old new r
-put-then {at} {a} {b} {old} {mid} {new} {i} {r} h k =
-    record {
-      past = omega (arith, h .past, k .past, length-append a b);
-      output = k .output ∙ rw (h .output, h .past) (sym (sets-append a b old at));
-    }
-
-pub put-keeps-length : {at : ℕ} {a old new : List ℕ} {r : ℕ} → PutAt at a old new r → length new ≡ length old
-put-keeps-length {at} {a} {old} h = ap length (h .output) ∙ length-sets old at a
 
 -- A piece is put, and behind it there is room for the rest.
 pub record PutBefore (rest : List ℕ) (at : ℕ) (piece old new : List ℕ) (r : ℕ) : Type 0 where

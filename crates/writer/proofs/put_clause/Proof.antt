@@ -6,7 +6,8 @@ use native.Mathlib.Omega.{arith}
 use lib.ListN.{length, length-append, length-set}
 use Rattle.dimacs.specs.Bytes.{bytes}
 use Rattle.dimacs.specs.Writing.{lead, items}
-use Rattle.writer.proofs.Pieces.{PutBefore, put-two, put-then, put-before, next-room, then-before}
+use Rattle.decimals.proofs.Pieces.{put-then}
+use Rattle.writer.proofs.Pieces.{PutBefore, put-two, put-before, next-room, then-before}
 use Rattle.writer.proofs.Lines.{clause-put, clause-to-come}
 use Rattle.writer.proofs.put_clause.Statement.{statement}
 use Rattle.writer.proofs.put_clause.Tie as tie

@@ -8,7 +8,8 @@ use lib.ListN.{length, length-append, length-set}
 use Rattle.dimacs.specs.Bytes.{bytes}
 use Rattle.dimacs.specs.Writing.{thirdDigits}
 use Rattle.writer.specs.Lines.{headerStart, headerCount}
-use Rattle.writer.proofs.Pieces.{PutBefore, put-one, put-then, put-before, then-whole}
+use Rattle.decimals.proofs.Pieces.{put-then}
+use Rattle.writer.proofs.Pieces.{PutBefore, put-one, put-before, then-whole}
 use Rattle.writer.proofs.Lines.{header-put, header-to-come}
 use Rattle.writer.proofs.put_header.Statement.{statement}
 use Rattle.writer.proofs.put_header.Tie as tie

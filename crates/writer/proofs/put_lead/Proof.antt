@@ -6,7 +6,8 @@ use borrow.Author.Needs.{needs}
 use lib.ListN.{length, length-set}
 use Rattle.dimacs.specs.Bytes.{bytes}
 use Rattle.dimacs.specs.Writing.{digits, lead}
-use Rattle.writer.proofs.Pieces.{PutBefore, put-nothing, put-one, put-two, put-then, whole-before}
+use Rattle.decimals.proofs.Pieces.{put-nothing, put-then}
+use Rattle.writer.proofs.Pieces.{PutBefore, put-one, put-two, whole-before}
 use Rattle.writer.proofs.put_lead.Statement.{statement}
 use Rattle.writer.proofs.put_lead.Tie as tie
 

@@ -9,7 +9,8 @@ use mir.Syntax.{w32}
 use mir.Val.{toZ, ofZ}
 use Rattle.dimacs.specs.Bytes.{bytes}
 use Rattle.dimacs.specs.Writing.{signedDigits}
-use Rattle.writer.proofs.Pieces.{PutBefore, put-one, put-then, whole-before}
+use Rattle.decimals.proofs.Pieces.{put-then}
+use Rattle.writer.proofs.Pieces.{PutBefore, put-one, whole-before}
 use Rattle.writer.proofs.Literals.{Listed, listed-none, listed-long, listed-room, listed-more, listed-all}
 use Rattle.writer.proofs.put_literals.Statement.{statement}
 use Rattle.writer.proofs.put_literals.Tie as tie

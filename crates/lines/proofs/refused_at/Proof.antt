@@ -1,0 +1,36 @@
+-- `lines::refused_at` meets its contract: a labelled number, then another. Assumes nothing.
+use borrow.Author.Needs.{needs}
+use Rattle.lines.proofs.Pages.{lay-then}
+use Rattle.lines.proofs.refused_at.Statement.{statement}
+use Rattle.lines.proofs.refused_at.Tie as tie
+
+slice-aggregate-labelled : tie.Need-slice-aggregate-labelled
+slice-aggregate-labelled c = search needs
+
+cast-labelled : tie.Need-cast-labelled
+cast-labelled c = search needs
+
+labelled-requires : tie.Need-labelled-requires
+labelled-requires c κs = search needs
+
+labelled-requires-2 : tie.Need-labelled-requires-2
+labelled-requires-2 c κs = search needs
+
+same-length : tie.Need-same-length
+same-length c = search needs
+
+returns : tie.Need-returns
+returns c =
+    let at-second = c .before .before in
+    lay-then (at-second .before .before .before .before .labelled .ensures) (at-second .labelled2 .ensures)
+
+pub refused-at-spec : {M : Type 1} → statement M
+refused-at-spec =
+    tie.close
+    (tie.spec
+    slice-aggregate-labelled
+    cast-labelled
+    labelled-requires
+    labelled-requires-2
+    same-length
+    returns)

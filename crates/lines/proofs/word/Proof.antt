@@ -1,0 +1,56 @@
+-- `lines::word` meets its contract: each turn lays the next byte. Assumes nothing.
+use Prim.Native.Nat.{_-_}
+use mathlib.Core.List.{[], _∷_}
+use borrow.Author.Needs.{needs}
+use lib.ListN.{length}
+use Rattle.lines.proofs.Pages.{LaidSome, flat-bytes, some-none, some-long, some-more, some-all}
+use Rattle.lines.proofs.word.Statement.{statement}
+use Rattle.lines.proofs.word.Tie as tie
+
+abbrev Inv-loop : tie.InvT-loop
+Inv-loop page₀ at w past₀ i₀ page past i = LaidSome (λ b. b ∷ []) at w page₀ page past i
+
+abbrev μ-loop : tie.MeasureT-loop
+μ-loop page₀ at w past₀ i₀ page past i = length w - i
+
+loop-holds : tie.Need-loop-holds Inv-loop μ-loop
+loop-holds c = some-none _ _ _ _
+
+shared-slice-read-byte : tie.Need-shared-slice-read-byte Inv-loop μ-loop
+shared-slice-read-byte c = search needs
+
+byte-requires : tie.Need-byte-requires Inv-loop μ-loop
+byte-requires c κs = search needs
+
+add-i : tie.Need-add-i Inv-loop μ-loop
+add-i c = search needs
+
+loop-less : tie.Need-loop-less Inv-loop μ-loop
+loop-less c = search needs
+
+loop-again : tie.Need-loop-again Inv-loop μ-loop
+loop-again c =
+    let at-laid = c .before .before in
+    let at-turn = at-laid .before .before .before in
+    some-more (at-turn .before .loop .inv) 0 (at-turn .loop-test .taken) (at-laid .byte .ensures)
+
+same-length : tie.Need-same-length Inv-loop μ-loop
+same-length c = some-long (c .before .loop .inv)
+
+returns : tie.Need-returns Inv-loop μ-loop
+returns c = rw (flat-bytes _) at (some-all (c .before .loop .inv) (c .loop-test .left))
+
+pub word-spec : {M : Type 1} → statement M
+word-spec =
+    tie.close
+    (tie.spec
+    Inv-loop
+    μ-loop
+    loop-holds
+    shared-slice-read-byte
+    byte-requires
+    add-i
+    loop-less
+    loop-again
+    same-length
+    returns)

@@ -1,0 +1,80 @@
+-- The words that the programs print.
+use Prim.Native.Nat.{ℕ, _+_, _-_, _/_, _%_}
+use Prim.Native.Char.{code}
+use mathlib.Core.Bool.{cond}
+use mathlib.Core.List.{List, [], _∷_, _++_, flatMap}
+use lib.Dec.{ltb}
+use lib.IntN.{ℤ}
+use Rattle.dimacs.specs.Bytes.{bytes}
+use Rattle.dimacs.specs.Writing.{digits, signedDigits, thirdDigits}
+use Rattle.dimacs.specs.declared.Format.{Format}
+use Rattle.dimacs.specs.declared.Format.the-variants.{Plain, Weighted, Grouped}
+use Rattle.dimacs.specs.declared.Header.{Header}
+use Rattle.dimacs.specs.declared.Opening.{Opening}
+use Rattle.dimacs.specs.declared.Opening.the-variants.{NoHeader, Refused}
+use Rattle.dimacs.specs.declared.Opening.the-variants as opening
+use Rattle.dimacs.specs.declared.Refusal.{Refusal}
+
+-- A number after a space.
+abbrev pub printedNumber : ℕ → List ℕ
+printedNumber n = bytes " " ++ digits n
+
+-- A number after a word and a space.
+abbrev pub printedLabel : List ℕ → ℕ → List ℕ
+printedLabel label n = label ++ printedNumber n
+
+-- A literal after a space.
+abbrev pub printedLiteral : ℤ → List ℕ
+printedLiteral l = bytes " " ++ signedDigits l
+
+-- Literals, each after a space.
+abbrev pub printedLiterals : List ℤ → List ℕ
+printedLiterals so = flatMap printedLiteral so
+
+-- The digit of a number below 16.
+abbrev pub hexDigit : ℕ → ℕ
+hexDigit d = cond (ltb d 10) (code "0" + d) (code "a" + (d - 10))
+
+-- A byte in hex.
+abbrev pub printedHex : ℕ → List ℕ
+printedHex b = hexDigit (b / 16) ∷ hexDigit (b % 16) ∷ []
+
+-- A word in hex.
+abbrev pub printedHexWord : List ℕ → List ℕ
+printedHexWord w = flatMap printedHex w
+
+-- A header: its word and its counts.
+abbrev pub printedHeader : Format → Header → List ℕ
+printedHeader f h = printedLabel (bytes "header") (h .variables) ++ printedNumber (h .clauses) ++ thirdDigits f (h .third)
+
+-- The weight or the group of a clause, if the format has one.
+abbrev pub printedLead : Format → ℕ → List ℕ
+printedLead Plain extra = []
+printedLead Weighted extra = printedNumber extra ++ bytes ":"
+printedLead Grouped extra = bytes " {" ++ digits extra ++ bytes "}:"
+
+-- A clause.
+abbrev pub printedClause : Format → ℕ → List ℤ → List ℕ
+printedClause f extra so = bytes "clause" ++ printedLead f extra ++ printedLiterals so
+
+-- A refusal's number, and its place after a word.
+abbrev pub printedPlacedRefusal : Refusal → List ℕ → List ℕ
+printedPlacedRefusal r placeWord = printedLabel (bytes "refused") (r .number) ++ printedLabel placeWord (r .place)
+
+-- A refusal's number, its place after a word, and k after a word.
+abbrev pub printedRefusal : Refusal → ℕ → List ℕ → List ℕ → List ℕ
+printedRefusal r k placeWord countWord = printedPlacedRefusal r placeWord ++ printedLabel countWord k
+
+-- How a text opens; the two words are those of a refusal, whose k is 0.
+abbrev pub printedOpening : Opening → Format → List ℕ → List ℕ → List ℕ
+printedOpening (opening.Header h _) f placeWord countWord = printedHeader f h
+printedOpening (NoHeader _) f placeWord countWord = bytes "header none"
+printedOpening (Refused r) f placeWord countWord = printedRefusal r 0 placeWord countWord
+
+-- The number of a case.
+abbrev pub printedCase : ℕ → List ℕ
+printedCase n = printedLabel (bytes "case") n
+
+-- Words, and the line end.
+abbrev pub line : List ℕ → List ℕ
+line words = words ++ bytes "\n"
