@@ -2,8 +2,8 @@
 """Kills the queue example at random points and starts it again.
 
 kill.py ROUNDS COMMAND..: COMMAND.. is the queue program as it is run here, without its words. In each round a folder of orders is made, and the program is killed
-one to three times at random moments of its work. After each kill every text must be in exactly one folder, once, and each refused one must have its whole reason. Then the
-program runs to its end, and the folders must be as after a run that nobody killed.
+one to three times at random moments of its work. After each kill every text must be in exactly one folder, once, and each refused one must have its whole reason. Then two are
+started at once: what the killed ones had locked is free, one of the two runs to its end, the other is turned away or finds nothing left, and the folders must be as after a run that nobody killed.
 """
 import collections
 import os
@@ -15,10 +15,10 @@ import tempfile
 import time
 
 ORDERS = 60
-WORDS = ["plain", "strict"]
+WORDS = ["--header", "plain", "strict"]
 
 # Orders by turns: the text after a comment that makes it the only one of its kind.
-TEXTS = [b"p cnf 2 1\n1 -2 0\n", b"1 0 2 0\n", b"", b"p cnf 1 1\n2 0\n", b"1 2", b"-1 0\n" * 2000, b"1 x 0\n"]
+TEXTS = [b"p cnf 2 1\n1 -2 0\n", b"1 0 2 0\n", b"", b"p cnf 1 1\n2 0\n", b"p cnf 0 0\n", b"p cnf 1 2000\n" + b"-1 0\n" * 2000, b"1 x 0\n"]
 
 
 def write(path, content):
@@ -26,12 +26,17 @@ def write(path, content):
         file.write(content)
 
 
+def name(n):
+    """Every ninth name is as long as a name can be."""
+    return f"order-{n:03}.cnf" if n % 9 != 8 else f"order-{n:03}-".ljust(255, "x")
+
+
 def make(folder):
     """A folder of orders, with some names that are taken already and some files that are no orders."""
     os.makedirs(f"{folder}/accepted")
     os.makedirs(f"{folder}/refused")
     for n in range(ORDERS):
-        write(f"{folder}/order-{n:03}.cnf", b"c order %d\n" % n + TEXTS[n % len(TEXTS)])
+        write(f"{folder}/{name(n)}", b"c order %d\n" % n + TEXTS[n % len(TEXTS)])
     write(f"{folder}/accepted/order-000.cnf", b"c an earlier order\n")
     write(f"{folder}/refused/order-001.cnf", b"c an earlier order, refused\nx\n")
     write(f"{folder}/refused/order-001.cnf.reason", b"an earlier reason\n")
@@ -59,8 +64,8 @@ def texts(files):
     return collections.Counter(content for path, content in files.items() if is_text(path))
 
 
-def run(command, folder):
-    return subprocess.Popen([*command, *WORDS, folder], stdout=subprocess.DEVNULL)
+def run(command, folder, told=None):
+    return subprocess.Popen([*command, *WORDS, folder], stdout=subprocess.DEVNULL, stderr=told)
 
 
 def expect(holds, what, folder):
@@ -114,7 +119,9 @@ def main():
             killed = 0
             for _ in range(dice.randint(1, 3)):
                 killed += kill(command, folder, dice.uniform(0, whole), before, wanted, seen)
-            expect(run(command, folder).wait() == 0, "the last run failed", folder)
+            statuses = sorted(queue.wait() for queue in [run(command, folder, subprocess.DEVNULL), run(command, folder, subprocess.DEVNULL)])
+            expect(statuses in ([0, 0], [0, 2]), f"of two at once, the statuses are {statuses}", folder)
+            seen["one of two at once turned away:"] += statuses == [0, 2]
             expect(state(folder) == wanted, "the folders are not as after a run that nobody killed", folder)
             shutil.rmtree(folder)
             done += killed > 0

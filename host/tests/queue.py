@@ -3,7 +3,9 @@
 
 queue.py COMMAND..: COMMAND.. is the queue program as it is run here, without its words.
 """
+import fcntl
 import os
+import socket
 import subprocess
 import sys
 import tempfile
@@ -27,7 +29,7 @@ def expect(holds, what):
 
 
 def bad_words(folder):
-    for words in ([], ["plain"], ["plain", "strict"], ["cnf", "strict", folder], ["plain", "odd", folder], ["plain", "strict", folder, folder]):
+    for words in ([], ["plain"], ["plain", "strict"], ["cnf", "strict", folder], ["plain", "odd", folder], ["plain", "strict", folder, folder], ["--header", "log", "strict", folder], ["--header", "plain", "strict"]):
         status, said, told = run(*words)
         expect((status, said) == (2, "") and told.startswith("usage: queue "), f"{words}: {status} {told}")
     status, _, told = run("plain", "strict", f"{folder}/none")
@@ -42,35 +44,97 @@ def formats(folder):
         ("log", "strict", b"s SATISFIABLE\nv 1 0\n", None),
         ("log", "lenient", b"v 1\n", 19),
     ):
-        write(f"{folder}/one", text)
+        name = f"{format}-{mode}"
+        write(f"{folder}/{name}", text)
         status, said, _ = run(format, mode, folder)
-        wanted = "accepted one\n" if number is None else f"refused one: refusal {number} at byte "
+        wanted = f"accepted {name}\n" if number is None else f"refused {name}: refusal {number} at byte "
         expect(status == 0 and said.startswith(wanted), f"{format} {mode}: {status} {said}")
 
 
 def names(folder):
-    """Orders go by name; what is no order stays; an order whose reason cannot be written stays and holds up nothing."""
+    """Orders go by name, each on one line; what is no order stays, and what might be taken for one is told."""
     write(f"{folder}/b", BAD)
     write(f"{folder}/a", GOOD)
     write(f"{folder}/c\xe9 d", GOOD)
+    write(f"{folder}/e\naccepted f", GOOD)
     write(os.fsencode(folder) + b"/\xff", BAD)
-    write(f"{folder}/" + "n" * 255, BAD)
     write(f"{folder}/z", GOOD)
     write(f"{folder}/.hidden", GOOD)
     write(f"{folder}/x.reason", BAD)
     os.mkdir(f"{folder}/folder")
     os.symlink("a", f"{folder}/link")
+    os.symlink("folder", f"{folder}/link-to-folder")
     os.mkfifo(f"{folder}/pipe")
+    with socket.socket(socket.AF_UNIX) as bound:
+        bound.bind(f"{folder}/socket")
     status, said, told = run("plain", "strict", folder)
-    expect(status == 1, f"an order stays: {status} {told}")
+    expect(status == 1, f"links stay: {status} {told}")
     taken = [line.split(":")[0] for line in said.splitlines()]
-    expect(taken == ["accepted a", "refused b", "accepted c\xe9 d", "accepted z", "refused \ufffd"], f"{taken}")
-    expect("n" * 255 + " stays" in told, told)
+    expect(taken == ["accepted a", "refused b", "accepted c\xe9 d", "accepted e\\naccepted f", "accepted z", "refused \ufffd"], f"{taken}")
+    expect(told == "queue: link stays: it is a link\nqueue: link-to-folder stays: it is a link\nqueue: pipe stays: it is a pipe\nqueue: socket stays: it is no file\n", told)
     left = sorted(os.listdir(folder))
-    expect(left == [".hidden", "accepted", "folder", "link", "n" * 255, "pipe", "refused", "x.reason"], f"{left}")
+    expect(left == [".hidden", "accepted", "folder", "link", "link-to-folder", "pipe", "refused", "socket", "x.reason"], f"{left}")
     with open(f"{folder}/refused/b.reason") as file:
         expect(file.read() == "number 5\nplace 4\nreason a line end is expected\n", "the reason")
     expect(sorted(os.listdir(os.fsencode(folder) + b"/refused")) == [b"b", b"b.reason", b"\xff", b"\xff.reason"], "refused")
+
+
+def long_names(folder):
+    """A name that is too long for a reason or a number is cut between two characters, and never so that it ends as a reason does."""
+    longest, shorter, accented, as_reason = "n" * 255, "n" * 248, "\xe9" * 127, "r" * 240 + ".reason" + "r" * 8
+    for text in (BAD, BAD, GOOD, GOOD):
+        for name in (longest, shorter, accented, as_reason, "r" * 240):
+            write(f"{folder}/{name}", text)
+        status, said, told = run("plain", "strict", folder)
+        expect((status, told) == (0, ""), f"long names: {status} {told}")
+        expect(text == GOOD or f"refused {longest} as {'n' * 245}" in said, said)
+    refused = ["n" * 247 + "~", "n" * 245 + "~.2", shorter, "n" * 245 + "~.3", "\xe9" * 123 + "~", "\xe9" * 122 + "~.2", as_reason[:247] + "~", as_reason[:245] + "~.2", "r" * 240, "r" * 240 + ".2"]
+    expect(sorted(os.listdir(f"{folder}/refused")) == sorted(refused + [f"{name}.reason" for name in refused]), f"{sorted(os.listdir(f'{folder}/refused'))}")
+    accepted = [longest, "n" * 252 + "~.2", shorter, shorter + ".2", accented, "\xe9" * 126 + "~.2", as_reason, as_reason[:252] + "~.2", "r" * 240, "r" * 240 + ".2"]
+    expect(sorted(os.listdir(f"{folder}/accepted")) == sorted(accepted), f"{sorted(os.listdir(f'{folder}/accepted'))}")
+
+
+def header(folder):
+    """With --header, a text needs a header, and each count of it a digit other than 0."""
+    none, zero = "a header is expected", "a header with no count of 0 is expected"
+    for format, mode, text, why in (
+        ("plain", "strict", b"", none),
+        ("plain", "lenient", b"c p cnf 1 1\n1 0\n", none),
+        ("plain", "strict", b"c one\n \t\n p \t cnf\t1  1 \r\n1 0\n", None),
+        ("plain", "strict", b"p cnf 1 1\n1 0", None),
+        ("plain", "strict", b"p cnf 1 0\n1 0", zero),
+        ("plain", "strict", b"p cnf 1 00\n1 0", zero),
+        ("plain", "strict", b"p cnf 000 1\n1 0", zero),
+        ("plain", "strict", b"p cnf 0 0", zero),
+        ("plain", "lenient", b"p cnf 01 10", None),
+        ("plain", "strict", b"p cnf 1 1\n", "refusal 9 at byte 10: a clause, a comment, a line end or a permitted end of the text is expected"),
+        ("weighted", "strict", b"5 1 0\n", none),
+        ("weighted", "strict", b"p wcnf 1 1 0\n5 1 0\n", None),
+        ("weighted", "strict", b"p wcnf 1 0 7\n5 1 0\n", zero),
+        ("grouped", "strict", b"{1} 1 0\n", none),
+        ("grouped", "strict", b"p gcnf 1 1 1\n{1} 1 0\n", None),
+        ("grouped", "strict", b"p gcnf 1 1 0\n{1} 1 0\n", zero),
+        ("grouped", "strict", b"p gcnf 1 1 10\n{1} 1 0\n", None),
+    ):
+        write(f"{folder}/one", text)
+        status, said, _ = run("--header", format, mode, folder)
+        told, _, reason = said.rstrip("\n").partition(": ")
+        expect(status == 0 and told.split()[0] == ("refused" if why else "accepted") and reason == (why or ""), f"{format} {mode} {text}: {status} {said}")
+    with open(f"{folder}/refused/one.reason") as file:
+        expect(file.read() == f"reason {none}\n", "the reason of no header")
+
+
+def two_at_once(folder):
+    """While another has the folder, a queue takes nothing and says so. A lock that is given back, by whatever end, is free."""
+    write(f"{folder}/order", GOOD)
+    lock = os.open(folder, os.O_RDONLY)
+    fcntl.flock(lock, fcntl.LOCK_EX)
+    status, said, told = run("plain", "strict", folder)
+    expect((status, said, told) == (2, "", f"queue: {folder}: another queue is at work here\n"), f"two at once: {status} {said} {told}")
+    expect(os.listdir(folder) == ["order"], "something was done beside another queue")
+    os.close(lock)
+    status, said, told = run("plain", "strict", folder)
+    expect((status, said, told) == (0, "accepted order\n", ""), f"one again: {status} {said} {told}")
 
 
 def again(folder):
@@ -86,10 +150,10 @@ def again(folder):
 
 
 def main():
-    for test in (bad_words, formats, names, again):
+    for test in (bad_words, formats, names, long_names, header, two_at_once, again):
         with tempfile.TemporaryDirectory() as folder:
             test(folder)
-    print("queue: words, formats, names and names again, as they should be")
+    print("queue: words, formats, names, long names, headers, two at once and names again, as they should be")
 
 
 main()

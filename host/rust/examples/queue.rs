@@ -1,39 +1,53 @@
 //! Takes a folder of order texts in turn. A good order moves to `accepted/`; a bad one moves to `refused/`, with the reason beside it in NAME.reason. A bad order
 //! never holds up the rest.
 //!
-//!     queue FORMAT MODE FOLDER
+//!     queue [--header] FORMAT MODE FOLDER
 //!
 //! FORMAT is plain, weighted, grouped or log; MODE is strict or lenient. The orders are the regular files of FOLDER, taken in the order of their names. Names that
-//! begin with `.` or end in `.reason` are no orders: write an order under such a name, and rename it when it is whole.
+//! begin with `.` or end in `.reason` are no orders: write an order under such a name, and rename it when it is whole. Folders are passed over.
 //!
-//! The program takes the orders that are there when it starts, and stops. An order that cannot be read or moved stays and is named on standard error. Exit
-//! status: 0 if no order stayed, 1 if one did, 2 if the words are wrong or the folder cannot be used.
+//! By the formats, a text without a header is a formula, also one of no bytes, as a copy that failed may leave it; and a header's count of 0 leaves it open how much
+//! follows. With `--header` such texts are refused too. Logs have no header.
+//!
+//! The program takes the orders that are there when it starts, and stops. An order that cannot be read or moved stays and is named on standard error, as is a link, a
+//! pipe or whatever else is no file. Exit status: 0 if nothing stayed, 1 if something did, 2 if the words are wrong or the folder cannot be used.
 //!
 //! It may be killed at any moment and run again. An order is done when it is renamed, which happens at once or not at all, and after its reason is on the disk. What a
-//! killed run leaves is an order that has not moved, and perhaps a reason that is written again, so that nothing is lost or done twice. Run one at a time on a folder.
+//! killed run leaves is an order that has not moved, and perhaps a reason that is written again, so that nothing is lost or done twice. A second run on a folder stops
+//! at once, with status 2, while the first is at work.
+//!
+//! A name that is taken gets a number. One that is then too long for the folder, or for a reason beside it, is cut, and ends in `~`.
 
 use latchtwig::{check, Format, Mode, Refusal};
 use std::ffi::{OsStr, OsString};
-use std::fs::{self, File};
+use std::fmt;
+use std::fs::{self, File, FileType};
 use std::io::{self, Read, Write};
+use std::os::unix::ffi::{OsStrExt, OsStringExt};
+use std::os::unix::fs::FileTypeExt;
+use std::os::unix::io::AsRawFd;
 use std::path::{Path, PathBuf};
 use std::process::ExitCode;
 
-const USAGE: &str = "usage: queue plain|weighted|grouped|log strict|lenient FOLDER";
+const USAGE: &str =
+    "usage: queue [--header] plain|weighted|grouped strict|lenient FOLDER, or queue log strict|lenient FOLDER";
 
-/// What the name of a reason ends in, and what it ends in while it is written.
+/// What the name of a reason ends in, and the name it has while it is written.
 const REASON: &str = ".reason";
 const UNFINISHED: &str = ".part";
 
 /// A longer text is not read, so that none takes up all memory.
 const LONGEST: u64 = 256 << 20;
 
+/// The longest name that a folder takes, in bytes.
+const LONGEST_NAME: usize = 255;
+
 fn main() -> ExitCode {
     let words: Vec<OsString> = std::env::args_os().skip(1).collect();
     let queue = match asked(&words) {
         Some(queue) => queue,
         None => {
-            eprintln!("{USAGE}");
+            say(io::stderr(), USAGE);
             return ExitCode::from(2);
         }
     };
@@ -41,14 +55,19 @@ fn main() -> ExitCode {
         Ok(0) => ExitCode::SUCCESS,
         Ok(_) => ExitCode::FAILURE,
         Err(error) => {
-            eprintln!("queue: {}: {error}", queue.folder.display());
+            let folder = shown(queue.folder.as_os_str());
+            say(io::stderr(), &format!("queue: {folder}: {error}"));
             ExitCode::from(2)
         }
     }
 }
 
-/// What the three words of the command ask for.
+/// What the words of the command ask for.
 fn asked(words: &[OsString]) -> Option<Queue> {
+    let (header, words) = match words.split_first() {
+        Some((first, rest)) if first == "--header" => (true, rest),
+        _ => (false, words),
+    };
     let (format, mode, folder) = match words {
         [format, mode, folder] => (format.to_str()?, mode.to_str()?, folder),
         _ => return None,
@@ -57,7 +76,7 @@ fn asked(words: &[OsString]) -> Option<Queue> {
         "plain" => Format::Plain,
         "weighted" => Format::Weighted,
         "grouped" => Format::Grouped,
-        "log" => Format::Log,
+        "log" if !header => Format::Log,
         _ => return None,
     };
     let mode = match mode {
@@ -66,6 +85,7 @@ fn asked(words: &[OsString]) -> Option<Queue> {
         _ => return None,
     };
     Some(Queue {
+        header,
         format,
         mode,
         folder: folder.into(),
@@ -73,25 +93,39 @@ fn asked(words: &[OsString]) -> Option<Queue> {
 }
 
 struct Queue {
+    header: bool,
     format: Format,
     mode: Mode,
     folder: PathBuf,
 }
 
+/// Why an order is refused: by the reader, or for its header.
+enum Why {
+    Text(Refusal),
+    Header(&'static str),
+}
+
+impl fmt::Display for Why {
+    fn fmt(&self, f: &mut fmt::Formatter<'_>) -> fmt::Result {
+        match self {
+            Why::Text(refusal) => refusal.fmt(f),
+            Why::Header(words) => words.fmt(f),
+        }
+    }
+}
+
 impl Queue {
     /// Takes all orders in turn, and answers how many stayed.
     fn run(&self) -> io::Result<usize> {
+        let _lock = locked(&self.folder)?;
         let orders = self.orders()?;
         fs::create_dir_all(self.accepted())?;
         fs::create_dir_all(self.refused())?;
         self.tidy()?;
         let mut stayed = 0;
-        for name in &orders {
-            match self.take(name) {
-                Ok(Ok(())) => say(io::stdout(), &format!("accepted {}", shown(name))),
-                Ok(Err(refusal)) => {
-                    say(io::stdout(), &format!("refused {}: {refusal}", shown(name)))
-                }
+        for (name, kind) in &orders {
+            match self.take(name, kind) {
+                Ok(done) => say(io::stdout(), &done),
                 Err(error) => {
                     say(
                         io::stderr(),
@@ -112,50 +146,100 @@ impl Queue {
         self.folder.join("refused")
     }
 
-    /// The names of the orders, sorted.
-    fn orders(&self) -> io::Result<Vec<OsString>> {
-        let mut names = Vec::new();
+    /// What has the name of an order and is no folder, sorted by name.
+    fn orders(&self) -> io::Result<Vec<(OsString, FileType)>> {
+        let mut orders = Vec::new();
         for entry in fs::read_dir(&self.folder)? {
             let entry = entry?;
-            let name = entry.file_name();
-            if is_order(&name) && entry.file_type()?.is_file() {
-                names.push(name);
+            let (name, kind) = (entry.file_name(), entry.file_type()?);
+            if is_order(&name) && !kind.is_dir() {
+                orders.push((name, kind));
             }
         }
-        names.sort();
-        Ok(names)
+        orders.sort_by(|(one, _), (other, _)| one.cmp(other));
+        Ok(orders)
     }
 
-    /// Removes the reasons that a killed run left unfinished.
+    /// Removes the reason that a killed run left unfinished.
     fn tidy(&self) -> io::Result<()> {
-        for entry in fs::read_dir(self.refused())? {
-            let entry = entry?;
-            let name = entry.file_name();
-            let name = name.to_string_lossy();
-            if name.starts_with('.') && name.ends_with(UNFINISHED) && entry.file_type()?.is_file() {
-                fs::remove_file(entry.path())?;
+        match fs::remove_file(self.refused().join(UNFINISHED)) {
+            Err(error) if error.kind() != io::ErrorKind::NotFound => Err(error),
+            _ => Ok(()),
+        }
+    }
+
+    /// Judges one order, moves it, and answers what was done.
+    fn take(&self, name: &OsStr, kind: &FileType) -> io::Result<String> {
+        if !kind.is_file() {
+            return Err(other(no_file(kind)));
+        }
+        let order = self.folder.join(name);
+        match self.judged(&whole(&order)?) {
+            Ok(()) => {
+                let place = self.accepted();
+                let free = free_name(&place, name, LONGEST_NAME)?;
+                fs::rename(&order, place.join(&free))?;
+                Ok(format!("accepted {}", moved(name, &free)))
             }
+            Err(why) => {
+                let place = self.refused();
+                let free = free_name(&place, name, LONGEST_NAME - REASON.len())?;
+                write_reason(&place, &free, &why)?;
+                fs::rename(&order, place.join(&free))?;
+                Ok(format!("refused {}: {why}", moved(name, &free)))
+            }
+        }
+    }
+
+    fn judged(&self, text: &[u8]) -> Result<(), Why> {
+        check(self.format, self.mode, text).map_err(Why::Text)?;
+        if self.header {
+            header_counts(self.format, text).map_err(Why::Header)?;
         }
         Ok(())
     }
+}
 
-    /// Judges one order and moves it.
-    fn take(&self, name: &OsStr) -> io::Result<Result<(), Refusal>> {
-        let order = self.folder.join(name);
-        let verdict = check(self.format, self.mode, &whole(&order)?);
-        match verdict {
-            Ok(()) => {
-                let place = self.accepted();
-                fs::rename(&order, place.join(free_name(&place, name)?))?;
-            }
-            Err(refusal) => {
-                let place = self.refused();
-                let name = free_name(&place, name)?;
-                write_reason(&place, &name, &refusal)?;
-                fs::rename(&order, place.join(name))?;
-            }
+/// Whether a text that was read to its end has a header, and that no count of 0. The reader itself tells where a header is: in another format it refuses a text that
+/// has one, and no other, with 1, at the word after `p`. The header was read, so the words from there on are the format's, and then its counts.
+fn header_counts(format: Format, text: &[u8]) -> Result<(), &'static str> {
+    let (another, counts) = match format {
+        Format::Plain => (Format::Grouped, 2),
+        Format::Weighted => (Format::Plain, 2),
+        Format::Grouped => (Format::Plain, 3),
+        Format::Log => return Ok(()),
+    };
+    let place = match check(another, Mode::Lenient, text) {
+        Err(Refusal { number: 1, place }) => place,
+        _ => return Err("a header is expected"),
+    };
+    let words = text[place..].split(|byte| b" \t\r\n".contains(byte));
+    let mut counts = words.filter(|word| !word.is_empty()).skip(1).take(counts);
+    if counts.any(|count| count.iter().all(|&digit| digit == b'0')) {
+        return Err("a header with no count of 0 is expected");
+    }
+    Ok(())
+}
+
+extern "C" {
+    /// The C library's lock on an open file.
+    fn flock(file: i32, operation: i32) -> i32;
+}
+
+/// The folder, locked as long as it is open. The lock leaves nothing on the disk and ends with the program, also with one that is killed.
+fn locked(folder: &Path) -> io::Result<File> {
+    const EXCLUSIVE: i32 = 2;
+    const WITHOUT_WAITING: i32 = 4;
+    let file = File::open(folder)?;
+    // SAFETY: the call is given an open file and a number, and no memory.
+    if unsafe { flock(file.as_raw_fd(), EXCLUSIVE | WITHOUT_WAITING) } == 0 {
+        return Ok(file);
+    }
+    match io::Error::last_os_error() {
+        error if error.kind() == io::ErrorKind::WouldBlock => {
+            Err(other("another queue is at work here"))
         }
-        Ok(verdict)
+        error => Err(error),
     }
 }
 
@@ -165,62 +249,101 @@ fn is_order(name: &OsStr) -> bool {
     !name.starts_with('.') && !name.ends_with(REASON)
 }
 
+fn no_file(kind: &FileType) -> &'static str {
+    if kind.is_symlink() {
+        "it is a link"
+    } else if kind.is_fifo() {
+        "it is a pipe"
+    } else {
+        "it is no file"
+    }
+}
+
 /// The bytes of a file, if they are not too many.
 fn whole(path: &Path) -> io::Result<Vec<u8>> {
     let mut text = Vec::new();
     File::open(path)?.take(LONGEST + 1).read_to_end(&mut text)?;
     if text.len() as u64 > LONGEST {
-        return Err(io::Error::new(
-            io::ErrorKind::Other,
-            format!("it has more than {LONGEST} bytes"),
-        ));
+        return Err(other(&format!("it has more than {LONGEST} bytes")));
     }
     Ok(text)
 }
 
 /// The name, or, if an earlier order has it there, the name with the first number from 2 on that makes it free. A reason alone takes no name: it is left from
 /// a killed run.
-fn free_name(place: &Path, name: &OsStr) -> io::Result<OsString> {
-    let mut free = name.to_owned();
+fn free_name(place: &Path, name: &OsStr, longest: usize) -> io::Result<OsString> {
+    let mut free = fitted(name, "", longest);
     let mut number = 2u64;
     loop {
         match fs::symlink_metadata(place.join(&free)) {
             Err(error) if error.kind() == io::ErrorKind::NotFound => return Ok(free),
             Err(error) => return Err(error),
-            Ok(_) => free = ending(name, &format!(".{number}")),
+            Ok(_) => free = fitted(name, &format!(".{number}"), longest),
         }
         number += 1;
     }
 }
 
-/// The name with an ending.
-fn ending(name: &OsStr, end: &str) -> OsString {
-    let mut longer = name.to_owned();
-    longer.push(end);
-    longer
+/// The name with an ending. Where that is too long the name is cut between two characters and marked with `~`, so that it never ends as a reason does.
+fn fitted(name: &OsStr, end: &str, longest: usize) -> OsString {
+    let mut bytes = name.as_bytes().to_vec();
+    if bytes.len() + end.len() > longest {
+        let mut cut = longest - end.len() - 1;
+        while cut > 0 && bytes[cut] & 0xC0 == 0x80 {
+            cut -= 1;
+        }
+        bytes.truncate(cut);
+        bytes.push(b'~');
+    }
+    bytes.extend_from_slice(end.as_bytes());
+    OsString::from_vec(bytes)
 }
 
 /// Puts the reason beside where the order will be, whole or not at all.
-fn write_reason(place: &Path, name: &OsStr, refusal: &Refusal) -> io::Result<()> {
-    let reason = ending(name, REASON);
-    let mut hidden = OsString::from(".");
-    hidden.push(ending(&reason, UNFINISHED));
-    let unfinished = place.join(hidden);
+fn write_reason(place: &Path, name: &OsStr, why: &Why) -> io::Result<()> {
+    let unfinished = place.join(UNFINISHED);
     let mut file = File::create(&unfinished)?;
-    writeln!(
-        file,
-        "number {}\nplace {}\nreason {}",
-        refusal.number,
-        refusal.place,
-        refusal.words()
-    )?;
+    match why {
+        Why::Text(refusal) => writeln!(
+            file,
+            "number {}\nplace {}\nreason {}",
+            refusal.number,
+            refusal.place,
+            refusal.words()
+        )?,
+        Why::Header(words) => writeln!(file, "reason {words}")?,
+    }
     file.sync_all()?;
+    let mut reason = name.to_owned();
+    reason.push(REASON);
     fs::rename(&unfinished, place.join(reason))?;
     File::open(place)?.sync_all()
 }
 
+fn other(why: &str) -> io::Error {
+    io::Error::new(io::ErrorKind::Other, why)
+}
+
+/// A name, and the one that it has become, if that is another.
+fn moved(name: &OsStr, free: &OsStr) -> String {
+    if name == free {
+        shown(name)
+    } else {
+        format!("{} as {}", shown(name), shown(free))
+    }
+}
+
+/// A name on one line, whatever its bytes are.
 fn shown(name: &OsStr) -> String {
-    name.to_string_lossy().into_owned()
+    let mut line = String::new();
+    for character in name.to_string_lossy().chars() {
+        if character.is_control() {
+            line.extend(character.escape_default());
+        } else {
+            line.push(character);
+        }
+    }
+    line
 }
 
 /// A line of what was done. The folders are the record, so nothing stops if no one listens.
