@@ -18,7 +18,7 @@ use Rattle.dimacs.specs.declared.Start.the-variants as start
 use Rattle.dimacs.specs.declared.EndOfLine.{EndOfLine}
 use Rattle.dimacs.specs.declared.EndOfLine.the-variants as end
 use Rattle.rows.specs.Answers.{ByCount}
-use Rattle.clause.specs.Answers.{literalsOf, readOf, ReadsLiterals, answeredOf, leftBy, Answers}
+use Rattle.clause.specs.Answers.{literalsOf, readOf, ReadsLiterals, nextOf, kIn, answeredOf, leftBy, Answers}
 use Rattle.clause.specs.declared.Literals.{Literals}
 use Rattle.clause.specs.declared.Literals.the-variants.{Nothing, Closed, Stopped}
 use Rattle.clause.specs.declared.Next.the-variants as next
@@ -27,6 +27,12 @@ use Rattle.clause.specs.declared.Answered.{Answered}
 -- Two permitted answers are equal, and so are the buffers after them.
 pub one-answer : {d : def.Answered} {old n₁ n₂ : List ℤ} {r₁ r₂ : Answered} → Answers d old n₁ r₁ → Answers d old n₂ r₂ → (r₁ ≡ r₂) × (n₁ ≡ n₂)
 one-answer p q = (p .answer ∙ sym (q .answer), p .buffer ∙ sym (q .buffer))
+
+-- k is how many literals an answer leaves in the buffer.
+pub k-left : (a : def.Answer) → kIn (nextOf a) ≡ length (leftBy a)
+k-left (def.clause extra so) = refl
+k-left def.ended = refl
+k-left (def.refused r so) = refl
 
 -- What is answered where no clause stands has no literals.
 instead-unread : (i : Instead) → leftBy (def.instead i .answer) ≡ []

@@ -41,6 +41,24 @@ leftBy (def.clause extra so) = so
 leftBy def.ended = []
 leftBy (def.refused r so) = so
 
+-- The number of the refusal, 0 where nothing is refused.
+abbrev pub numberIn : Next → ℕ
+numberIn (next.Clause extra n) = 0
+numberIn next.Ended = 0
+numberIn (next.Refused r n) = r .number
+
+-- The place of the refusal, 0 where nothing is refused.
+abbrev pub placeIn : Next → ℕ
+placeIn (next.Clause extra n) = 0
+placeIn next.Ended = 0
+placeIn (next.Refused r n) = r .place
+
+-- k, how many literals were read.
+abbrev pub kIn : Next → ℕ
+kIn (next.Clause extra n) = n
+kIn next.Ended = 0
+kIn (next.Refused r n) = n
+
 -- An answer and its place.
 abbrev pub answeredOf : def.Answered → Answered
 answeredOf d = record { answer = nextOf (d .answer); place = d .place }

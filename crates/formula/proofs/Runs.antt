@@ -14,6 +14,7 @@ use Rattle.dimacs.specs.declared.Format.{Format}
 use Rattle.dimacs.specs.declared.Mode.{Mode}
 use Rattle.dimacs.specs.declared.Limits.{Limits}
 use Rattle.dimacs.specs.declared.Progress.{Progress}
+use Rattle.dimacs.specs.declared.Refusal.{Refusal}
 use Rattle.dimacs.specs.declared.Opening.{Opening}
 use Rattle.dimacs.specs.declared.Opening.the-variants as opening
 use Rattle.dimacs.specs.declared.Final.{Final}
@@ -23,12 +24,13 @@ use Rattle.dimacs.proofs.Clauses.{toCome, Placed, AnswerFits}
 use Rattle.dimacs.proofs.Texts.{next-clause-onward, answers-step, answer-fits}
 use Rattle.header.specs.Headed.{headedIn}
 use Rattle.header.specs.declared.Headed.{Headed}
-use Rattle.clause.specs.Answers.{nextOf, answeredOf}
+use Rattle.clause.specs.Answers.{nextOf, numberIn, placeIn, kIn, answeredOf}
 use Rattle.clause.specs.declared.Next.{Next}
 use Rattle.clause.specs.declared.Next.the-variants as next
 use Rattle.formula.specs.declared.Cursor.{Cursor}
 use Rattle.formula.specs.declared.Opened.{Opened}
 use Rattle.formula.specs.declared.Stepped.{Stepped}
+use Rattle.formula.specs.Openings as openings
 use Rattle.formula.specs.Cursors.{cursorOf, begunBy, openedBy, openedAs, opened, cursorAfter, stepOf, Steps}
 use Rattle.formula.specs.declared.Outcome.the-variants as outcome
 use Rattle.formula.specs.Whole.{outcomeBy, outcomeOfText, outcomeIn, outcomeFrom, Call, callBy, call, calls, callOf}
@@ -80,6 +82,13 @@ calls-are-answers f m room s = go (openingOf s f)
         let c = texts.progress (r .place) 0 (final.Refused r) in
         calls-from s f unlimited room c ∙ ap (map callOf) (answers-step s f unlimited room c)
 
+-- After a refused header each call for a clause answers its number, place and k.
+pub header-repeated : (f : Format) (m : Mode) (s : List ℕ) (room : ℕ) (r : Refusal) → let o = openedAs f m s in let a = stepOf s room (o .cursor) .answer in
+    o .opening ≡ opening.Refused r
+    → (numberIn a ≡ openings.numberIn (o .opening)) × (placeIn a ≡ openings.placeIn (o .opening)) × (kIn a ≡ openings.kIn (o .opening))
+unfolding openedAs texts.answerAt
+header-repeated f m s room r h = rw h (refl, refl, refl)
+
 -- A call leads on: after a clause the text comes to the same and fewer clauses are to come; any other answer is what it comes to.
 abbrev pub CallLeads : List ℕ → ℕ → Cursor → Cursor → Next → Type 0
 CallLeads s room c c′ (next.Clause extra n) =
@@ -117,11 +126,9 @@ steps-lead s c old new r room l p {a} g =
     (subst (λ n. CallLeads s n c (r .cursor) (r .answer)) l
     (subst (λ x. CallLeads s (length old) c (x .cursor) (x .answer)) (sym (p .answer)) (call-leads s (length old) c)))
 
--- The count of literals of a clause is at most the buffer's length.
+-- The literals that an answer counts are at most so many.
 abbrev pub CountFits : ℕ → Next → Type 0
-CountFits room (next.Clause extra n) = n ≤ room
-CountFits room next.Ended = Unit {0}
-CountFits room (next.Refused r n) = n ≤ room
+CountFits room a = kIn a ≤ room
 
 pub steps-fit : (s : List ℕ) (c : Cursor) (old new : List ℤ) (r : Stepped) → Steps s c old new r → {a : Next} → r .answer ≡ a → CountFits (length old) a
 steps-fit s c old new r p g =
@@ -130,7 +137,7 @@ steps-fit s c old new r p g =
   where
     go : (a : def.Answer) → AnswerFits (length old) a → CountFits (length old) (nextOf a)
     go (def.clause extra so) h = h
-    go def.ended h = tt
+    go def.ended h = omega arith
     go (def.refused q so) h = h
 
 -- Opening leaves at most (n + 1) / 2 clauses to come.

@@ -1,8 +1,8 @@
--- The answers for a line are one; and the line that a row of values stands in, a law for each way out. Assumes nothing.
+-- The answers for a line are one, and k is how many literals they leave; and the line that a row of values stands in, a law for each way out. Assumes nothing.
 use Prim.Native.Nat.{ℕ}
 use mathlib.Core.List.{List}
 use mathlib.Core.Path.{_≡_, refl, sym, _∙_, subst}
-use lib.ListN.{replicate, length-replicate}
+use lib.ListN.{length, replicate, length-replicate}
 use lib.IntN.{ℤ, pos}
 use Rattle.dimacs.specs.Loop.{Step, again, answer}
 use Rattle.dimacs.specs.Names.{Reason, refusal}
@@ -19,6 +19,7 @@ use Rattle.dimacs.specs.Buffers.{laid}
 use Rattle.rows.specs.Answers.{rowOf, ReadsRow, ByCount}
 use Rattle.rows.specs.declared.Row.{Row}
 use Rattle.rows.specs.declared.Row.the-variants.{Ends, Closes, Stops}
+use Rattle.log_line.specs.Answers.{logOf, kIn, logLeaves}
 use Rattle.log_line.specs.Lines.{logLineOf, lineLeaves, ReadsLine}
 use Rattle.log_line.specs.declared.Log.the-variants.{Refused}
 use Rattle.log_line.specs.declared.Line.{Line}
@@ -27,6 +28,11 @@ use Rattle.log_line.specs.declared.Line.the-variants.{Answer}
 -- Two permitted answers are equal, and so are the buffers after them.
 pub one-line : {d : Step def.Log def.LogAnswer} {old n₁ n₂ : List ℤ} {r₁ r₂ : Line} → ReadsLine d old n₁ r₁ → ReadsLine d old n₂ r₂ → (r₁ ≡ r₂) × (n₁ ≡ n₂)
 one-line p q = (p .line ∙ sym (q .line), p .buffer ∙ sym (q .buffer))
+
+-- k is how many literals an answer leaves in the buffer.
+pub log-k-left : (d : def.LogAnswer) → kIn (logOf d) ≡ length (logLeaves d)
+log-k-left (def.accepted v so) = refl
+log-k-left (def.refusedLog r so) = refl
 
 -- There are so many literals, whatever the count is.
 pub one-count : {A : Type 0} {n : ℕ} {f : List ℤ → A} {r₁ r₂ : A} → ByCount n f r₁ → ByCount n f r₂ → r₁ ≡ r₂

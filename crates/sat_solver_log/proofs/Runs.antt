@@ -14,12 +14,13 @@ use Rattle.dimacs.proofs.Loops.{after}
 use Rattle.dimacs.proofs.Logs.{LineLeads, log-line-leads, log-step}
 use Rattle.dimacs.specs.Buffers.{laid}
 use Rattle.dimacs.proofs.Buffer.{Kept, kept-unchanged, kept-count, kept-beyond, kept-adds, laid-first}
-use Rattle.log_line.specs.Answers.{logOf, logLeaves}
+use Rattle.log_line.specs.Answers.{logOf, kIn, logLeaves}
 use Rattle.log_line.specs.Lines.{logStateOf, readingOf, logLineOf, lineLeaves, ReadsLine}
 use Rattle.log_line.specs.declared.Log.{Log}
 use Rattle.log_line.specs.declared.Log.the-variants.{Accepted, Refused}
 use Rattle.log_line.specs.declared.Reading.{Reading}
 use Rattle.log_line.specs.declared.Line.the-variants.{Again, Answer}
+use Rattle.log_line.proofs.Rows.{log-k-left}
 use Rattle.sat_solver_log.specs.Answers.{Parses}
 use Rattle.sat_solver_log.proofs.Lines.{lineAt, log-line-grows}
 
@@ -27,17 +28,11 @@ use Rattle.sat_solver_log.proofs.Lines.{lineAt, log-line-grows}
 pub one-log : {d : def.LogAnswer} {old n₁ n₂ : List ℤ} {r₁ r₂ : Log} → Parses d old n₁ r₁ → Parses d old n₂ r₂ → (r₁ ≡ r₂) × (n₁ ≡ n₂)
 one-log p q = (p .answer ∙ sym (q .answer), p .buffer ∙ sym (q .buffer))
 
-abbrev pub LogCountFits : ℕ → Log → Type 0
-LogCountFits room (Accepted v n) = n ≤ room
-LogCountFits room (Refused r n) = n ≤ room
-
 -- No answer counts more literals than the buffer holds.
-pub parses-fit : {d : def.LogAnswer} {old new : List ℤ} {r a : Log} → Parses d old new r → r ≡ a → LogCountFits (length new) a
-parses-fit {d} {old} {new} p g = subst (LogCountFits (length new)) (sym (p .answer) ∙ g) (go d (p .buffer))
-  where
-    go : (d : def.LogAnswer) → new ≡ laid (logLeaves d) old → LogCountFits (length new) (logOf d)
-    go (def.accepted v so) e = rw e (omega (arith, length-append so (drop (length so) old)))
-    go (def.refusedLog r so) e = rw e (omega (arith, length-append so (drop (length so) old)))
+pub parses-fit : {d : def.LogAnswer} {old new : List ℤ} {r a : Log} → Parses d old new r → r ≡ a → kIn a ≤ length new
+parses-fit {d} {old} {new} p g =
+    let so = logLeaves d in
+    subst (λ x. kIn x ≤ length new) (sym (p .answer) ∙ g) (rw (p .buffer, log-k-left d) (omega (arith, length-append so (drop (length so) old))))
 
 -- The literals so far stand at the laid-first of the buffer, and the log from here on is the log from the start.
 pub record LogSoFar (s : List ℕ) (mode : Mode) (old lits : List ℤ) (x : Reading) : Type 0 where

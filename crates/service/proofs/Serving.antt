@@ -11,6 +11,7 @@ use lib.IntN.{ℤ}
 use Rattle.dimacs.specs.Clauses as def
 use Rattle.dimacs.specs.declared.Format.{Format}
 use Rattle.dimacs.specs.declared.Mode.{Mode}
+use Rattle.dimacs.specs.declared.Opening.the-variants as how
 use Rattle.dimacs.proofs.Tests.{tested, chosen}
 use Rattle.dimacs.proofs.Clauses.{AnswerFits}
 use Rattle.dimacs.proofs.Texts.{answer-fits}
@@ -19,14 +20,22 @@ use Rattle.formula.specs.declared.Cursor.{Cursor}
 use Rattle.formula.specs.declared.Opened.{Opened}
 use Rattle.formula.specs.declared.Stepped.{Stepped}
 use Rattle.clause.specs.Answers.{leftBy}
+use Rattle.clause.proofs.Finishes.{k-left}
 use Rattle.service.specs.declared.Stage.{Stage}
 use Rattle.service.specs.declared.Stage.the-variants as stage
 use Rattle.service.specs.declared.Served.{Served}
-use Rattle.service.specs.Serving.{within, literalsIn, openingServed, stepServed, Serving, serving, outside, servedPart, servedOf, Serves}
+use Rattle.service.specs.Serving.{within, Reply, opening, answering, saidOf, kIn, literalsIn, openingServed, stepServed, Serving, serving, outside, servedPart, servedOf, Serves}
 
 -- Two permitted answers are equal, and so are the buffers after them.
 pub one-serving : {v : Serving} {old n₁ n₂ : List ℤ} {r₁ r₂ : Served} → Serves v old n₁ r₁ → Serves v old n₂ r₂ → (r₁ ≡ r₂) × (n₁ ≡ n₂)
 one-serving p q = (p .answer ∙ sym (q .answer), p .buffer ∙ sym (q .buffer))
+
+-- k is how many literals are said.
+pub said-k : (a : Reply) → kIn (saidOf a) ≡ length (literalsIn a)
+said-k (opening (how.Header h at)) = refl
+said-k (opening (how.NoHeader at)) = refl
+said-k (opening (how.Refused r)) = refl
+said-k (answering a) = k-left a
 
 -- The sum of start and length is tested without being made.
 pub within-test : (start size lent : ℕ) → start ≤ lent → leb size (lent - start) ≡ within start size lent

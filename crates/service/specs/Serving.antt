@@ -12,9 +12,11 @@ use Rattle.dimacs.specs.Clauses.{Answer, refused}
 use Rattle.dimacs.specs.declared.Format.{Format}
 use Rattle.dimacs.specs.declared.Opening.{Opening}
 use Rattle.dimacs.specs.declared.Opening.the-variants as how
+use Rattle.clause.specs.Answers as answers
 use Rattle.clause.specs.Answers.{nextOf, leftBy}
 use Rattle.clause.specs.declared.Next.{Next}
 use Rattle.clause.specs.declared.Next.the-variants as next
+use Rattle.formula.specs.Openings as openings
 use Rattle.formula.specs.Cursors.{openedAs, answerFrom, stepOf}
 use Rattle.formula.specs.declared.Cursor.{Cursor}
 use Rattle.formula.specs.declared.Opened.{Opened}
@@ -45,6 +47,19 @@ pub data Reply : Type 0 where
 abbrev pub saidOf : Reply → Said
 saidOf (opening o) = said.Opening o
 saidOf (answering a) = said.Next (nextOf a)
+
+-- Number, place and k of what was said are those of the opening, or of the answer.
+abbrev pub numberIn : Said → ℕ
+numberIn (said.Opening o) = openings.numberIn o
+numberIn (said.Next a) = answers.numberIn a
+
+abbrev pub placeIn : Said → ℕ
+placeIn (said.Opening o) = openings.placeIn o
+placeIn (said.Next a) = answers.placeIn a
+
+abbrev pub kIn : Said → ℕ
+kIn (said.Opening o) = openings.kIn o
+kIn (said.Next a) = answers.kIn a
 
 -- The literals stand in the buffer.
 abbrev pub literalsIn : Reply → List ℤ

@@ -9,7 +9,6 @@ use lib.Dec.{ltb}
 use lib.ListN.{length}
 use lib.IntN.{ℤ}
 use Rattle.dimacs.specs.Names.{ownRoom}
-use Rattle.dimacs.specs.Clauses as def
 use Rattle.dimacs.proofs.Tests.{chosen}
 use Rattle.clause.specs.declared.Next.{Next}
 use Rattle.formula.proofs.Runs.{CountFits}
@@ -23,25 +22,14 @@ use Rattle.ring.specs.Ring.{waiting, frontOf}
 use Rattle.tray.specs.declared.TurnAnswer.{TurnAnswer}
 use Rattle.tray.specs.declared.TurnAnswer.the-variants as turning
 use Rattle.tray.specs.declared.TurnDone.{TurnDone}
-use Rattle.service.specs.Serving.{Reply, opening, answering, saidOf, literalsIn}
-use Rattle.service.proofs.Serving.{part-fits}
+use Rattle.service.specs.Serving.{kIn, literalsIn}
+use Rattle.service.proofs.Serving.{said-k, part-fits}
 use Rattle.tray.specs.Calls.{serve, turnFor, turnOf, Turns}
 
--- The literals that are said to be read are at most so many.
-abbrev SaidFits : ℕ → Said → Type 0
-SaidFits room (said.Opening o) = Unit {0}
-SaidFits room (said.Next a) = CountFits room a
-
--- The same of a turn's answer.
+-- The literals that a turn's answer counts are at most so many.
 abbrev ToldFits : ℕ → TurnAnswer → Type 0
 ToldFits room (turning.Refused n) = Unit {0}
-ToldFits room (turning.Told k a last) = SaidFits room a
-
-reply-fits : (room : ℕ) (a : Reply) → length (literalsIn a) ≤ room → SaidFits room (saidOf a)
-reply-fits room (opening o) h = tt
-reply-fits room (answering (def.clause extra so)) h = h
-reply-fits room (answering def.ended) h = tt
-reply-fits room (answering (def.refused r so)) h = h
+ToldFits room (turning.Told k a last) = kIn a ≤ room
 
 served-fits : (area : List ℕ) (j : Job) → length (literalsIn (serve area j .said)) ≤ ownRoom
 unfolding serve
@@ -51,7 +39,7 @@ turn-fits-by : (t : Tray) (area : List ℕ) (room : ℕ) (x : Front) → ToldFit
 turn-fits-by t area room front.Nothing = tt
 turn-fits-by t area room (front.Waits j) =
     chosen (λ (d : TurnDone). ToldFits room (d .answer)) (ltb room ownRoom) (λ f. tt)
-    (λ f. reply-fits room (serve area j .said) (omega (arith, served-fits area j, ltb-false room ownRoom f)))
+    (λ f. rw (said-k (serve area j .said)) (omega (arith, served-fits area j, ltb-false room ownRoom f)))
 
 turn-fits : (t : Tray) (area : List ℕ) (room : ℕ) → ToldFits room (turnOf t area room .answer)
 unfolding turnOf
@@ -63,4 +51,4 @@ turns-fit {t} {area} {old} p g = subst (ToldFits (length old)) (sym (ap (λ x. x
 -- The same as a caller takes the answer apart.
 pub told-fits : {t : Tray} {area : List ℕ} {old new : List ℤ} {r : TurnDone} → Turns t area old new r
     → {k : ℕ} {a : Said} {last : Bool} {x y : Next} → r .answer ≡ turning.Told k a last → a ≡ said.Next x → x ≡ y → CountFits (length old) y
-told-fits {t} {area} {old} p g h e = subst (CountFits (length old)) e (subst (SaidFits (length old)) h (turns-fit p g))
+told-fits {t} {area} {old} p g h e = subst (CountFits (length old)) e (subst (λ x. kIn x ≤ length old) h (turns-fit p g))

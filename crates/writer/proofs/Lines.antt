@@ -1,5 +1,6 @@
 -- How long the parts of a line are, and whole lines put. Assumes nothing.
 use Prim.Native.Nat.{ℕ, _+_, _≤_, _<_}
+use mathlib.Core.Bool.{cond}
 use mathlib.Core.List.{List, [], _∷_, _++_, append-assoc}
 use mathlib.Core.Logic.{⊎-elim}
 use mathlib.Core.Path.{_≡_, refl, ap, sym, _∙_}
@@ -7,12 +8,12 @@ use native.Mathlib.Omega.{arith}
 use borrow.Author.Tests.{le-leb, lt-leb, leb-true}
 use denote.Enum.Declared.{tagOf}
 use types.Run.{OneOf}
-use lib.Dec.{leb}
+use lib.Dec.{leb, eqb}
 use lib.IntN.{ℤ}
 use lib.ListN.{length, drop, length-append}
 use lib.Seq.{sets-eq}
 use Rattle.dimacs.specs.Bytes.{bytes}
-use Rattle.dimacs.specs.Names.{Reason, callRefusal, ceiling}
+use Rattle.dimacs.specs.Names.{Reason, numberOf, callRefusal, ceiling}
 use Rattle.dimacs.specs.Tokens.{run}
 use Rattle.dimacs.specs.Writing as def
 use Rattle.dimacs.specs.Writing.{isLiteral, digits, items, lead, thirdDigits, headerLine, clauseLine}
@@ -21,10 +22,10 @@ use Rattle.dimacs.specs.declared.Format.the-variants.{Plain, Weighted, Grouped}
 use Rattle.dimacs.specs.declared.Header.{Header}
 use Rattle.dimacs.specs.declared.Refusal.{Refusal}
 use Rattle.dimacs.proofs.Format.{the-type}
-use Rattle.dimacs.proofs.Tests.{chosen}
+use Rattle.dimacs.proofs.Tests.{tested, chosen}
 use Rattle.decimals.specs.Pieces.{PutAt}
 use Rattle.writer.specs.Lines.{headerStart, headerCount}
-use Rattle.writer.specs.Answers.{Writes, writtenOf, bytesWritten, lineLength}
+use Rattle.writer.specs.Answers.{Writes, writtenOf, bytesWritten, numberIn, placeIn, lineLength}
 use Rattle.writer.specs.declared.Written.{Written}
 use Rattle.writer.specs.declared.Written.the-variants.{Line, Refused}
 
@@ -137,6 +138,19 @@ length-told (def.unwritten r) = refl
 -- So is the length that is answered.
 pub line-within : {d : def.Written} {old new : List ℕ} {r : Written} → Within (length old) d → Writes d old new r → lineLength r ≤ length old
 line-within {d} h w = rw (w .answer, length-told d) h
+
+-- A refused header is at place 0.
+pub header-place : (f : Format) (h : Header) (room : ℕ) → placeIn (writtenOf (def.writeHeader f h room)) ≡ 0
+unfolding def.writeHeader
+header-place f h room =
+    tested (leb (h .variables) ceiling) (λ a. tested (leb (length (headerLine f h)) room) (λ b. rw (a, b)) (λ b. rw (a, b))) (λ a. rw a)
+
+-- A clause that is refused for a literal is at the index of the first bad one, any other at place 0.
+pub clause-place : (f : Format) (extra : ℕ) (so : List ℤ) (room : ℕ) → let r = writtenOf (def.writeClause f extra so room) in
+    placeIn r ≡ cond (eqb (numberIn r) (numberOf Reason.literalNotWritable)) (run isLiteral so) 0
+unfolding def.writeClause
+clause-place f extra so room =
+    tested (leb (length so) (run isLiteral so)) (λ a. tested (leb (length (clauseLine f extra so)) room) (λ b. rw (a, b)) (λ b. rw (a, b))) (λ a. rw a)
 
 -- Two answers that the contract permits are equal, and leave the same output.
 pub one-writing : {d : def.Written} {old n₁ n₂ : List ℕ} {r₁ r₂ : Written} → Writes d old n₁ r₁ → Writes d old n₂ r₂ → (r₁ ≡ r₂) × (n₁ ≡ n₂)

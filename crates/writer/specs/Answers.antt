@@ -18,6 +18,21 @@ abbrev pub bytesWritten : def.Written → List ℕ
 bytesWritten (def.written line) = line
 bytesWritten (def.unwritten r) = []
 
+-- The number of the refusal, 0 where a line was written.
+abbrev pub numberIn : Written → ℕ
+numberIn (Line n) = 0
+numberIn (Refused r) = r .number
+
+-- The place of the refusal, the index of the literal at fault if one is; 0 where a line was written.
+abbrev pub placeIn : Written → ℕ
+placeIn (Line n) = 0
+placeIn (Refused r) = r .place
+
+-- k: a writer reads no literals of a text.
+abbrev pub kIn : Written → ℕ
+kIn (Line n) = 0
+kIn (Refused r) = 0
+
 -- How long a line an answer tells of, 0 if of none.
 abbrev pub lineLength : Written → ℕ
 lineLength (Line n) = n

@@ -1,0 +1,22 @@
+-- Number, place and k of how a text opens.
+use Prim.Native.Nat.{ℕ}
+use Rattle.dimacs.specs.declared.Opening.{Opening}
+use Rattle.dimacs.specs.declared.Opening.the-variants as opening
+
+-- The number of a refused header, 0 where nothing is refused.
+abbrev pub numberIn : Opening → ℕ
+numberIn (opening.Header h at) = 0
+numberIn (opening.NoHeader at) = 0
+numberIn (opening.Refused r) = r .number
+
+-- The place of a refused header, 0 where nothing is refused.
+abbrev pub placeIn : Opening → ℕ
+placeIn (opening.Header h at) = 0
+placeIn (opening.NoHeader at) = 0
+placeIn (opening.Refused r) = r .place
+
+-- k: no literals are read before the clauses.
+abbrev pub kIn : Opening → ℕ
+kIn (opening.Header h at) = 0
+kIn (opening.NoHeader at) = 0
+kIn (opening.Refused r) = 0
