@@ -11,11 +11,9 @@ use lib.Dec.{leb, ltb, eqb}
 use lib.IntN.{ℤ}
 use Rattle.dimacs.specs.Names.{Reason, numberOf, kindOf, largest, ownRoom, places}
 use Rattle.dimacs.specs.Buffers.{laid}
-use Rattle.dimacs.specs.Clauses as def
 use Rattle.dimacs.specs.declared.Kind.{Kind}
 use Rattle.dimacs.specs.declared.Kind.the-variants.{Unknown, Clauses, Log}
 use Rattle.dimacs.proofs.Tests.{tested}
-use Rattle.dimacs.proofs.Buffer as buffer
 use Rattle.formula.specs.declared.Cursor.{Cursor}
 use Rattle.rota.specs.Rota as rota
 use Rattle.rota.specs.Rota.{Call, put, turn, withdraw, told, ticketed, withdrawn, Done, does, Round, round, Entry, bad, good, Desk, waits, without, toBack}
@@ -29,9 +27,10 @@ use Rattle.service.specs.declared.Goes.{Goes}
 use Rattle.service.specs.declared.Goes.the-variants.{On, Over}
 use Rattle.tray.specs.declared.TurnDone.{TurnDone}
 use Rattle.tray.specs.Calls as calls
-use Rattle.service.specs.Serving.{within, Reply, opening, answering, saidOf, literalsIn, Serving}
+use Rattle.service.specs.Serving.{within, Reply, saidOf, literalsIn, Serving}
 use Rattle.tray.specs.Calls.{Put, ticketGiven, entered, serve, turned, turnOf, bufferOf, withdrawOf}
-use Rattle.tray.specs.Answers.{putSays, replyIn, turnSays, withdrawSays}
+use Rattle.tray.specs.Answers.{putSays, turnSays, withdrawSays}
+use Rattle.tray.proofs.Tells.{reply-in-buffer}
 use Rattle.fairness.specs.Promises.{Lent, did}
 use Rattle.fairness.proofs.Rings.{length-ring, ring-mod, ring-more, removed, taken-ring}
 
@@ -116,13 +115,6 @@ module _ (t : Tray) (l : length (t .jobs) ≡ places) where
   put-is p (Clauses f m) = tested (within (p .start) (p .length) (p .lent)) (λ w. rw w (entered-is (p .start) (p .length) (stage.Fresh f m))) (λ w. rw w)
   put-is p (Log m) = refl
   put-is p Unknown = refl
-
--- What a caller reads in an answer and the buffer after it is what was said.
-reply-in-buffer : (r : Reply) (old : List ℤ) → replyIn (laid (literalsIn r) old) (saidOf r) ≡ r
-reply-in-buffer (opening o) old = refl
-reply-in-buffer (answering (def.clause extra so)) old = ap (λ l. answering (def.clause extra l)) (buffer.laid-first so old)
-reply-in-buffer (answering def.ended) old = refl
-reply-in-buffer (answering (def.refused r so)) old = ap (λ l. answering (def.refused r l)) (buffer.laid-first so old)
 
 module _ (t : Tray) (l : length (t .jobs) ≡ places) where
   abbrev turnViewed : List ℤ → TurnDone → Done (Round Job) Reply

@@ -4,6 +4,7 @@ use mathlib.Core.Bool.{Bool}
 use mathlib.Core.List.{List, [], _∷_}
 use mathlib.Core.Path.{_≡_, refl, ap, sym, _∙_, subst}
 use native.Mathlib.Omega.{arith}
+use borrow.Author.Tests.{leb-false}
 use lib.ListN.{length, length-set}
 use lib.Dec.{leb, ltb}
 use lib.IntN.{ℤ}
@@ -14,10 +15,11 @@ use Rattle.dimacs.specs.declared.Kind.the-variants.{Unknown, Clauses, Log}
 use Rattle.dimacs.specs.declared.Mode.{Mode}
 use Rattle.dimacs.proofs.Tests.{tested}
 use Rattle.rota.specs.Rota as rota
-use Rattle.rota.specs.Rota.{Call, put, turn, withdraw, Answer, refused, ticketed, told, withdrawn, ticketIn, Done, does, answers, finally, heard, Round, fresh}
+use Rattle.rota.specs.Rota.{Call, put, turn, withdraw, Answer, refused, ticketed, told, withdrawn, Done, does, answers, finally, heard, Round, fresh}
 use Rattle.rota.proofs.Account.{account, in-order}
 use Rattle.rota.proofs.Tickets.{Sound, sound, sound-call}
-use Rattle.rota.proofs.Gone.{no-more}
+use Rattle.rota.proofs.Gone as gone
+use Rattle.rota.proofs.Gone.{told-done-with, withdrawn-done-with}
 use Rattle.rota.proofs.Waiting.{Stands}
 use Rattle.rota.proofs.Fair.{put-stands, fair}
 use Rattle.rota.proofs.Alone.{alone}
@@ -33,8 +35,9 @@ use Rattle.service.specs.Serving.{within, Reply}
 use Rattle.tray.specs.Calls.{Put, ticketGiven, entered, putAs, serve, turnFor, turnOf, bufferFor, bufferOf, Turns, withdrawOf}
 use Rattle.tray.specs.declared.TurnDone.{TurnDone}
 use Rattle.tray.specs.Answers.{putSays, turnSays, withdrawSays}
-use Rattle.fairness.specs.Promises.{Lent, Calls, did, BufferKept, Refusals, answered, left, thenPut, since, Holds, saidAlone, Account, Tickets, EnoughPlaces, Bound, Content, Demand, Silence}
-use Rattle.fairness.proofs.Rings.{length-moved}
+use Rattle.tray.proofs.Tells.{number-alone}
+use Rattle.fairness.specs.Promises.{Lent, Calls, did, BufferKept, Refusals, answered, left, thenPut, since, Holds, saidAlone, Account, Tickets, EnoughPlaces, Bound, Content, Demand, DoneWith, Silence, Withdrawn}
+use Rattle.fairness.proofs.Rings.{length-ring, length-moved}
 use Rattle.fairness.proofs.Desk.{view, desk, call-is}
 use Rattle.fairness.proofs.Reader.{turnsLeftOf, falls, PartOf, lasts, Begins, entry-begins, lawful, solo, alike, whole}
 
@@ -42,9 +45,6 @@ use Rattle.fairness.proofs.Reader.{turnsLeftOf, falls, PartOf, lasts, B
 pub turn-did : {t : Tray} {area : List ℕ} {old new : List ℤ} {r : TurnDone} → Turns t area old new r
     → does (turnSays new (r .answer)) (r .tray) ≡ did t (turn (record { area = area; buffer = old }))
 turn-did h = rw (h .done, h .buffer)
-
-ticketless : (x : Answer Reply) (n : ℕ) → x ≡ refused n → ticketIn x ≡ 0
-ticketless x n h = rw h
 
 put-refused : (t : Tray) (p : Put) (x : Kind) (n : ℕ) → putSays (putAs t p x .answer) ≡ refused n → putAs t p x .tray ≡ t
 unfolding entered
@@ -80,63 +80,83 @@ withdraw-refused t k n h = tested (ltb (ahead k (waiting t)) (howMany t)) (λ a.
     gone e = let z : _≡_ {A = ℕ} 0 1 = cc in absurd (omega arith)
 
 pub tray-refusals : Refusals
-tray-refusals t (put p) n h = (ticketless (did t (put p) .answer) n h, put-refused t p (kindOf (p .format) (p .mode)) n h, tt)
-tray-refusals t (turn e) n h = let k = turn-refused t e n h in (ticketless (did t (turn e) .answer) n h, k .0, k .1)
-tray-refusals t (withdraw k) n h = (ticketless (did t (withdraw k) .answer) n h, withdraw-refused t k n h, tt)
+tray-refusals t (put p) n h = (number-alone (did t (put p) .answer) n h, put-refused t p (kindOf (p .format) (p .mode)) n h, tt)
+tray-refusals t (turn e) n h = let k = turn-refused t e n h in (number-alone (did t (turn e) .answer) n h, k .0, k .1)
+tray-refusals t (withdraw k) n h = (number-alone (did t (withdraw k) .answer) n h, withdraw-refused t k n h, tt)
 
--- A tray keeps all its places.
-length-joined : (t : Tray) (j : Job) → length (joined t j .jobs) ≡ length (t .jobs)
+-- A call leaves all the places, and counts no more jobs than there are, if it found no more.
+record Fits (t u : Tray) : Type 0 where
+  size : length (u .jobs) ≡ length (t .jobs)
+  count : t .count ≤ places → u .count ≤ places
+
+fits-same : {t : Tray} → Fits t t
+fits-same = record { size = refl; count = λ h. h }
+
+fits-joined : (t : Tray) (j : Job) → Fits t (joined t j)
 unfolding joined
-length-joined t j = tested (leb places (t .count)) (λ a. rw a) (λ a. rw a (length-set (t .jobs) (placeBehind t (t .count)) j))
+fits-joined t j =
+    tested (leb places (t .count)) (λ a. rw a fits-same)
+    (λ a. rw a (record { size = length-set (t .jobs) (placeBehind t (t .count)) j; count = λ h. omega (arith, leb-false places (t .count) a) }))
 
-length-passed : (t : Tray) (j : Job) (g : Goes) → length (passed t j g .jobs) ≡ length (t .jobs)
-length-passed t j (On c) = length-set (t .jobs) (placeBehind t (howMany t)) (goesOn j c)
-length-passed t j Over = refl
+fits-passed : (t : Tray) (j : Job) (g : Goes) → Fits t (passed t j g)
+fits-passed t j (On c) = record { size = length-set (t .jobs) (placeBehind t (howMany t)) (goesOn j c); count = λ h. omega arith }
+fits-passed t j Over = record { size = refl; count = λ h. omega arith }
 
-length-put : (t : Tray) (p : Put) (x : Kind) → length (putAs t p x .tray .jobs) ≡ length (t .jobs)
+fits-put : (t : Tray) (p : Put) (x : Kind) → Fits t (putAs t p x .tray)
 unfolding entered
-length-put t p Unknown = refl
-length-put t p (Log m) = refl
-length-put t p (Clauses f m) =
+fits-put t p Unknown = fits-same
+fits-put t p (Log m) = fits-same
+fits-put t p (Clauses f m) =
     tested (within (p .start) (p .length) (p .lent))
-    (λ w. tested (leb places (t .count)) (λ a. rw (w, a))
-    (λ a. tested (leb largest (t .given)) (λ b. rw (w, a, b))
-    (λ b. rw (w, a, b) (length-joined (ticketGiven t (t .given + 1)) (jobOf (t .given + 1) (p .start) (p .length) (stage.Fresh f m))))))
-    (λ w. rw w)
+    (λ w. tested (leb places (t .count)) (λ a. rw (w, a) fits-same)
+    (λ a. tested (leb largest (t .given)) (λ b. rw (w, a, b) fits-same)
+    (λ b. let h = fits-joined (ticketGiven t (t .given + 1)) (jobOf (t .given + 1) (p .start) (p .length) (stage.Fresh f m)) in
+    rw (w, a, b) (record { size = h .size; count = h .count }))))
+    (λ w. rw w fits-same)
 
-length-turn : (t : Tray) (e : Lent) (x : Front) → length (turnFor t (e .area) (length (e .buffer)) x .tray .jobs) ≡ length (t .jobs)
-length-turn t e front.Nothing = refl
-length-turn t e (front.Waits j) =
-    tested (ltb (length (e .buffer)) ownRoom) (λ b. rw b)
-    (λ b. rw b (length-passed t j (serve (e .area) j .goes)))
+fits-turn : (t : Tray) (e : Lent) (x : Front) → Fits t (turnFor t (e .area) (length (e .buffer)) x .tray)
+fits-turn t e front.Nothing = fits-same
+fits-turn t e (front.Waits j) =
+    tested (ltb (length (e .buffer)) ownRoom) (λ b. rw b fits-same)
+    (λ b. rw b (fits-passed t j (serve (e .area) j .goes)))
 
-length-call : (t : Tray) (c : Call Put Lent) → length (did t c .after .jobs) ≡ length (t .jobs)
+fits-call : (t : Tray) (c : Call Put Lent) → Fits t (did t c .after)
 unfolding turnOf withdrawOf takenOut
-length-call t (put p) = length-put t p (kindOf (p .format) (p .mode))
-length-call t (turn e) = length-turn t e (frontOf (waiting t))
-length-call t (withdraw k) =
+fits-call t (put p) = fits-put t p (kindOf (p .format) (p .mode))
+fits-call t (turn e) = fits-turn t e (frontOf (waiting t))
+fits-call t (withdraw k) =
     let i = ahead k (waiting t) in
-    tested (ltb i (howMany t)) (λ a. rw a (length-moved (howMany t - (i + 1)) (t .jobs) (t .head % places) i)) (λ a. rw a)
+    tested (ltb i (howMany t))
+    (λ a. rw a (record { size = length-moved (howMany t - (i + 1)) (t .jobs) (t .head % places) i; count = λ h. omega arith }))
+    (λ a. rw a fits-same)
 
 -- Any calls on a record are those calls on the round for which it stands.
 answers-are : (cs : Calls) (t : Tray) → length (t .jobs) ≡ places → answers did t cs ≡ answers (rota.call desk) (view t) cs
 answers-are [] t l = refl
 answers-are (c ∷ cs) t l =
     let e = call-is t l c in
-    let r = answers-are cs (did t c .after) (length-call t c ∙ l) in
+    let r = answers-are cs (did t c .after) (fits-call t c .size ∙ l) in
     rw r (ap (λ d. d .answer ∷ answers (rota.call desk) (d .after) cs) e)
 
 finally-is : (cs : Calls) (t : Tray) → length (t .jobs) ≡ places → view (finally did t cs) ≡ finally (rota.call desk) (view t) cs
 finally-is [] t l = refl
-finally-is (c ∷ cs) t l = finally-is cs (did t c .after) (length-call t c ∙ l) ∙ ap (λ d. finally (rota.call desk) (d .after) cs) (call-is t l c)
+finally-is (c ∷ cs) t l = finally-is cs (did t c .after) (fits-call t c .size ∙ l) ∙ ap (λ d. finally (rota.call desk) (d .after) cs) (call-is t l c)
 
 length-finally : (cs : Calls) (t : Tray) → length (t .jobs) ≡ places → length (finally did t cs .jobs) ≡ places
 length-finally [] t l = l
-length-finally (c ∷ cs) t l = length-finally cs (did t c .after) (length-call t c ∙ l)
+length-finally (c ∷ cs) t l = length-finally cs (did t c .after) (fits-call t c .size ∙ l)
+
+count-finally : (cs : Calls) (t : Tray) → t .count ≤ places → finally did t cs .count ≤ places
+count-finally [] t h = h
+count-finally (c ∷ cs) t h = count-finally cs (did t c .after) (fits-call t c .count h)
 
 empty-places : length (emptyTray .jobs) ≡ places
 unfolding emptyTray
 empty-places = refl
+
+empty-count : emptyTray .count ≤ places
+unfolding emptyTray
+empty-count = omega arith
 
 empty-fresh : view emptyTray ≡ fresh
 unfolding emptyTray
@@ -158,12 +178,30 @@ pub tray-tickets : Tickets
 tray-tickets cs = rw (answered-are cs) (in-order desk cs)
 
 pub tray-enough-places : EnoughPlaces
-tray-enough-places cs = subst (λ v. length (v .waiting) ≤ places) (sym (left-is cs)) (sound desk lawful cs .places-enough)
+tray-enough-places cs =
+    let t = left cs in
+    let h = count-finally cs emptyTray empty-count in
+    record { within = h; all = omega (arith, h, length-ring (t .jobs) (t .head) (howMany t)) }
+
+done-with : (before : Calls) (k : ℕ) → gone.DoneWith desk k (finally (rota.call desk) fresh before) → DoneWith before k
+done-with before k d =
+    record {
+      unheard = λ after. ap (heard k) (answers-are after t (left-places before) ∙ ap (λ v. answers (rota.call desk) v after) (left-is before)) ∙ d .unheard after;
+      not-waiting = λ after.
+          ap (λ x. x .answer)
+          (call-is (finally did t after) (length-finally after t (left-places before)) (withdraw k)
+          ∙ ap (λ v. rota.call desk v (withdraw k)) (finally-is after t (left-places before) ∙ ap (λ v. finally (rota.call desk) v after) (left-is before))
+          ∙ d .not-waiting after);
+    }
+  where
+    t : Tray
+    t = left before
 
 pub tray-silence : Silence
-tray-silence before after k h =
-    ap (heard k) (answers-are after (left before) (left-places before) ∙ ap (λ v. answers (rota.call desk) v after) (left-is before))
-    ∙ no-more desk lawful k before after (rw (answered-are before) at h)
+tray-silence before k h = done-with before k (told-done-with desk lawful k before (rw (answered-are before) at h))
+
+pub tray-withdrawn : Withdrawn
+tray-withdrawn before k h = done-with before k (withdrawn-done-with desk lawful k before (rw (answered-are before) at h))
 
 -- A put that is given a ticket, after any calls, and the round after it.
 module _ (before : Calls) (p : Put) where
@@ -175,7 +213,7 @@ module _ (before : Calls) (p : Put) where
 
   since-are : (after : Calls) → since before p after ≡ answers (rota.call desk) (then .after) after
   since-are after =
-      answers-are after (thenPut before p .after) (length-call (left before) (put p) ∙ left-places before)
+      answers-are after (thenPut before p .after) (fits-call (left before) (put p) .size ∙ left-places before)
       ∙ ap (λ d. answers (rota.call desk) (d .after) after) then-is
 
   then-sound : Sound desk (then .after)

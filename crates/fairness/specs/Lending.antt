@@ -5,12 +5,12 @@ use mathlib.Core.List.{List, [], _∷_, map}
 use mathlib.Core.Path.{_≡_}
 use lib.ListN.{length}
 use lib.IntN.{ℤ}
-use Rattle.dimacs.specs.Names.{kindOf, places}
+use Rattle.dimacs.specs.Names.{Reason, numberOf, kindOf, places}
 use Rattle.dimacs.specs.declared.Format.{Format}
 use Rattle.dimacs.specs.declared.Kind.the-variants.{Clauses}
 use Rattle.dimacs.specs.declared.Mode.{Mode}
 use Rattle.rota.specs.Rota as rota
-use Rattle.rota.specs.Rota.{Call, Answer, tickets, verdicts, withdrawals, isWithdrawn, turns, heard, toTheLast, concluded, AtOwnTurns, Hears}
+use Rattle.rota.specs.Rota.{Call, Answer, refused, tickets, upward, verdicts, withdrawals, isWithdrawn, turns, heard, toTheLast, concluded, AtOwnTurns, Hears}
 use Rattle.ring.specs.declared.Tray.{Tray}
 use Rattle.ring.specs.Ring.{emptyTray, waiting}
 use Rattle.tray.specs.declared.PutAnswer.{PutAnswer}
@@ -19,9 +19,9 @@ use Rattle.tray.specs.declared.TurnAnswer.{TurnAnswer}
 use Rattle.tray.specs.declared.WithdrawAnswer.{WithdrawAnswer}
 use Rattle.service.specs.Serving.{Reply}
 use Rattle.tray.specs.Calls.{Put}
-use Rattle.tray.specs.Answers.{putSays, turnSays, withdrawSays}
+use Rattle.tray.specs.Answers.{putSays, turnSays, withdrawSays, NumberAlone}
 use Rattle.lent_tray.specs.Lent.{LentPut, LentTurn, LentWithdrawal}
-use Rattle.fairness.specs.Promises.{Lent, Calls, Holds, saidAlone}
+use Rattle.fairness.specs.Promises.{Lent, Calls, Counted, Holds, saidAlone}
 
 -- A call as it went: what it named or was lent, its answer, and the tray that it left; after a turn also what the buffer then held.
 pub data Event : Type 0 where
@@ -77,6 +77,24 @@ LentAccount =
     (es : List Event) → AllKeep emptyTray es
     → length (tickets (said es)) ≡ verdicts (said es) + withdrawals (said es) + length (waiting (finally emptyTray es))
 
+-- The buffer is as it was. Only a turn is lent one.
+abbrev pub BufferKept : Event → Type 0
+BufferKept (put p a u) = Unit {0}
+BufferKept (turn e a new u) = new ≡ e .buffer
+BufferKept (withdraw k a u) = Unit {0}
+
+-- The refusals: a call on any tray that is refused answers its number alone, and changes neither the tray nor the buffer.
+abbrev pub LentRefusals : Type 0
+LentRefusals = (t : Tray) (e : Event) (n : ℕ) → Keeps t e → saidIn e ≡ refused n → NumberAlone n (saidIn e) × (leftIn e ≡ t) × BufferKept e
+
+-- The tickets: the first is 1, and each later one is one more than the one before.
+abbrev pub LentTickets : Type 0
+LentTickets = (es : List Event) → AllKeep emptyTray es → let xs = said es in tickets xs ≡ upward 1 (length (tickets xs))
+
+-- The places: never more jobs wait than there are.
+abbrev pub LentEnoughPlaces : Type 0
+LentEnoughPlaces = (es : List Event) → AllKeep emptyTray es → Counted (finally emptyTray es)
+
 -- Some calls, a put that was given a ticket, and the calls after it.
 pub record AfterPut (before : List Event) (p : Put) (k : ℕ) (after : List Event) : Type 0 where
   pub tray : Tray
@@ -108,3 +126,17 @@ LentDemand =
     → AtOwnTurns (Holds p bytes) k (called after) (said after)
     → places * (2 + (p .length + 1) / 2) ≤ turns (said after)
     → heard k (said after) ≡ toTheLast (saidAlone f m bytes)
+
+-- After some calls a ticket is done with: no later turn answers it, and each later withdrawal of it is refused with 24.
+pub record LentDoneWith (before : List Event) (k : ℕ) : Type 0 where
+  pub unheard : (after : List Event) → AllKeep (finally emptyTray before) after → heard k (said after) ≡ []
+  pub not-waiting : (after : List Event) (a : WithdrawAnswer) (u : Tray) → AllKeep (finally emptyTray before) after
+      → LentWithdrawal (finally (finally emptyTray before) after) k u a → withdrawSays a ≡ refused (numberOf Reason.ticketNotWaiting)
+
+-- The silence: so it is after its verdict.
+abbrev pub LentSilence : Type 0
+LentSilence = (before : List Event) (k : ℕ) → AllKeep emptyTray before → concluded (heard k (said before)) ≡ true → LentDoneWith before k
+
+-- So it is after its withdrawal.
+abbrev pub LentWithdrawn : Type 0
+LentWithdrawn = (before : List Event) (k : ℕ) → AllKeep emptyTray before → isWithdrawn k (said before) ≡ true → LentDoneWith before k

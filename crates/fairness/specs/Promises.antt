@@ -5,17 +5,17 @@ use mathlib.Core.List.{List, [], _∷_, map}
 use mathlib.Core.Path.{_≡_}
 use lib.ListN.{length, take, drop}
 use lib.IntN.{ℤ}
-use Rattle.dimacs.specs.Names.{kindOf, ownRoom, places}
+use Rattle.dimacs.specs.Names.{Reason, numberOf, kindOf, ownRoom, places}
 use Rattle.dimacs.specs.Texts.{text}
 use Rattle.dimacs.specs.declared.Format.{Format}
 use Rattle.dimacs.specs.declared.Kind.the-variants.{Clauses}
 use Rattle.dimacs.specs.declared.Mode.{Mode}
-use Rattle.rota.specs.Rota.{Call, put, turn, withdraw, Answer, refused, ticketed, ticketIn, Done, does, answers, finally, tickets, upward, verdicts, withdrawals, isWithdrawn, turns, heard, toTheLast, concluded, AtOwnTurns, Hears}
+use Rattle.rota.specs.Rota.{Call, put, turn, withdraw, Answer, refused, ticketed, Done, does, answers, finally, tickets, upward, verdicts, withdrawals, isWithdrawn, turns, heard, toTheLast, concluded, AtOwnTurns, Hears}
 use Rattle.ring.specs.declared.Tray.{Tray}
 use Rattle.ring.specs.Ring.{emptyTray, waiting}
 use Rattle.service.specs.Serving.{Reply, opening, answering}
 use Rattle.tray.specs.Calls.{Put, putOf, turnOf, bufferOf, withdrawOf}
-use Rattle.tray.specs.Answers.{putSays, turnSays, withdrawSays}
+use Rattle.tray.specs.Answers.{putSays, turnSays, withdrawSays, NumberAlone}
 
 -- What a turn is lent.
 pub record Lent : Type 0 where
@@ -39,9 +39,9 @@ BufferKept t (put p) = Unit {0}
 BufferKept t (turn e) = bufferOf t (e .area) (e .buffer) ≡ e .buffer
 BufferKept t (withdraw k) = Unit {0}
 
--- A call on any record that is refused answers ticket 0 and changes neither the tray nor the buffer.
+-- A call on any record that is refused answers its number alone, and changes neither the tray nor the buffer.
 abbrev pub Refusals : Type 0
-Refusals = (t : Tray) (c : Call Put Lent) (n : ℕ) → did t c .answer ≡ refused n → (ticketIn (did t c .answer) ≡ 0) × (did t c .after ≡ t) × BufferKept t c
+Refusals = (t : Tray) (c : Call Put Lent) (n : ℕ) → did t c .answer ≡ refused n → NumberAlone n (did t c .answer) × (did t c .after ≡ t) × BufferKept t c
 
 module _ (calls : Calls) where
   -- The answers of calls from a fresh tray.
@@ -60,9 +60,14 @@ Account = (calls : Calls) → let xs = answered calls in length (tickets xs) ≡
 abbrev pub Tickets : Type 0
 Tickets = (calls : Calls) → let xs = answered calls in tickets xs ≡ upward 1 (length (tickets xs))
 
+-- A record counts the jobs that wait, and no more than there are places.
+pub record Counted (t : Tray) : Type 0 where
+  pub within : t .count ≤ places
+  pub all : length (waiting t) ≡ t .count
+
 -- Never more jobs wait than there are places.
 abbrev pub EnoughPlaces : Type 0
-EnoughPlaces = (calls : Calls) → length (waiting (left calls)) ≤ places
+EnoughPlaces = (calls : Calls) → Counted (left calls)
 
 module _ (before : Calls) (p : Put) where
   -- A put after some calls.
@@ -109,6 +114,15 @@ Demand =
     → places * (2 + (p .length + 1) / 2) ≤ turns (since before p after)
     → heard k (since before p after) ≡ toTheLast (saidAlone f m bytes)
 
--- After its verdict no turn answers a ticket.
+-- After some calls a ticket is done with: no later turn answers it, and each later withdrawal of it is refused with 24.
+pub record DoneWith (before : Calls) (k : ℕ) : Type 0 where
+  pub unheard : (after : Calls) → heard k (answers did (left before) after) ≡ []
+  pub not-waiting : (after : Calls) → did (finally did (left before) after) (withdraw k) .answer ≡ refused (numberOf Reason.ticketNotWaiting)
+
+-- So it is after its verdict.
 abbrev pub Silence : Type 0
-Silence = (before after : Calls) (k : ℕ) → concluded (heard k (answered before)) ≡ true → heard k (answers did (left before) after) ≡ []
+Silence = (before : Calls) (k : ℕ) → concluded (heard k (answered before)) ≡ true → DoneWith before k
+
+-- So it is after its withdrawal.
+abbrev pub Withdrawn : Type 0
+Withdrawn = (before : Calls) (k : ℕ) → isWithdrawn k (answered before) ≡ true → DoneWith before k

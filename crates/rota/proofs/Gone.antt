@@ -1,4 +1,4 @@
--- A ticket that was given and does not wait never waits again, and no turn is its: so it is after its verdict. Assumes nothing.
+-- A ticket that was given and does not wait never waits again, and no turn is its: so it is after its verdict, and after its withdrawal. Assumes nothing.
 use Prim.Native.Nat.{ℕ, _+_, _≤_}
 use mathlib.Core.Bool.{true, false}
 use mathlib.Core.List.{List, [], _∷_}
@@ -8,8 +8,9 @@ use native.Mathlib.Omega.{arith}
 use borrow.Author.Tests.{ne-eqb, eqb-true}
 use lib.Dec.{eqb}
 use Rattle.dimacs.proofs.Tests.{tested}
-use Rattle.rota.specs.Rota.{Call, Answer, Done, answers, finally, heard, concluded, Round, fresh, Desk, waits, call}
-use Rattle.rota.proofs.Waiting.{unlike, not-head, not-tail, waits-snoc, waits-without}
+use Rattle.dimacs.specs.Names.{Reason}
+use Rattle.rota.specs.Rota.{Call, withdraw, Answer, Done, answers, finally, isWithdrawn, heard, concluded, Round, fresh, Desk, waits, refuses, call}
+use Rattle.rota.proofs.Waiting.{unlike, not-head, not-tail, waits-snoc, waits-without, waits-taken, waits-upto}
 use Rattle.rota.proofs.Calls.{Does, nothing, enters, goes, ends, leaves, call-does}
 use Rattle.rota.proofs.Tickets.{Lawful, Sound, sound-call, sound}
 
@@ -17,6 +18,11 @@ module _ {J P E A : Type 0} (D : Desk J P E A) (k : ℕ) where
   pub record Gone (t : Round J) : Type 0 where
     pub away : waits (D .ticket) k (t .waiting) ≡ false
     pub was-given : k ≤ t .given
+
+  -- From a round on, no turn answers the ticket, and each withdrawal of it is refused.
+  pub record DoneWith (t : Round J) : Type 0 where
+    pub unheard : (after : List (Call P E)) → heard k (answers (call D) t after) ≡ []
+    pub not-waiting : (after : List (Call P E)) → let u = finally (call D) t after in call D u (withdraw k) ≡ refuses u Reason.ticketNotWaiting
 
   -- The call says nothing to the ticket.
   abbrev Silent : Answer A → Type 0
@@ -65,6 +71,31 @@ module _ {J P E A : Type 0} (D : Desk J P E A) (L : Lawful D) (k : ℕ) where
       let u = call D t c .after in
       ⊎-elim (λ g. gone-finally u cs g) (λ r. verdict-gone u cs (sound-call D L t c s) r) (after-verdict (answers (call D) u cs) (call-does D t c) s h)
 
-  -- After its verdict no turn answers a ticket.
-  pub no-more : (before after : List (Call P E)) → concluded (heard k (answers (call D) fresh before)) ≡ true → heard k (answers (call D) (finally (call D) fresh before) after) ≡ []
-  no-more before after h = gone-on (finally (call D) fresh before) after (verdict-gone fresh before (sound D L []) h)
+  -- Past a ticket's withdrawal, or it is still to come.
+  after-withdrawal : {t : Round J} {c : Call P E} {d : Done (Round J) A} (xs : List (Answer A)) → Does D t c d → Sound D t
+      → isWithdrawn k (d .answer ∷ xs) ≡ true → Gone D k (d .after) ⊎ (isWithdrawn k xs ≡ true)
+  after-withdrawal xs (nothing n) s h = inr h
+  after-withdrawal xs (enters make e l) s h = inr h
+  after-withdrawal xs (goes j j′ e) s h = inr h
+  after-withdrawal xs (ends j e) s h = inr h
+  after-withdrawal xs (leaves {js = js} {n = n} {k = m} w) s h =
+      tested (eqb k m)
+      (λ x.
+      let same = eqb-true k m x in
+      inl (record { away = rw same (waits-taken (D .ticket) m js (s .distinct)); was-given = rw same (waits-upto (D .ticket) n m js (s .upto) w) }))
+      (λ x. inr (rw x at h))
+
+  withdrawal-gone : (t : Round J) (cs : List (Call P E)) → Sound D t → isWithdrawn k (answers (call D) t cs) ≡ true → Gone D k (finally (call D) t cs)
+  withdrawal-gone t [] s h = unlike h refl
+  withdrawal-gone t (c ∷ cs) s h =
+      let u = call D t c .after in
+      ⊎-elim (λ g. gone-finally u cs g) (λ r. withdrawal-gone u cs (sound-call D L t c s) r) (after-withdrawal (answers (call D) u cs) (call-does D t c) s h)
+
+  gone-done-with : (t : Round J) → Gone D k t → DoneWith D k t
+  gone-done-with t g = record { unheard = λ after. gone-on t after g; not-waiting = λ after. rw (gone-finally t after g .away) }
+
+  pub told-done-with : (before : List (Call P E)) → concluded (heard k (answers (call D) fresh before)) ≡ true → DoneWith D k (finally (call D) fresh before)
+  told-done-with before h = gone-done-with (finally (call D) fresh before) (verdict-gone fresh before (sound D L []) h)
+
+  pub withdrawn-done-with : (before : List (Call P E)) → isWithdrawn k (answers (call D) fresh before) ≡ true → DoneWith D k (finally (call D) fresh before)
+  withdrawn-done-with before h = gone-done-with (finally (call D) fresh before) (withdrawal-gone fresh before (sound D L []) h)

@@ -5,7 +5,7 @@ use mathlib.Core.List.{List, [], _∷_, _++_}
 use mathlib.Core.Path.{_≡_, refl, ap, sym}
 use native.Mathlib.Omega.{arith}
 use native.Mathlib.Numerals.{add-one}
-use borrow.Author.Tests.{eq-eqb, eqb-false, ne-eqb}
+use borrow.Author.Tests.{eq-eqb, eqb-true, eqb-false, ne-eqb}
 use lib.ListN.{length, length-append}
 use lib.Dec.{eqb}
 use Rattle.dimacs.proofs.Tests.{tested}
@@ -50,6 +50,12 @@ module _ {J : Type 0} (ticket : J → ℕ) where
       (λ e. rw e (not-tail k x js h))
       (λ e. rw (e, not-head k x js h) (waits-without k n js (not-tail k x js h)))
 
+  -- Of distinct tickets, the one that is taken out waits no more.
+  pub waits-taken : (k : ℕ) (js : List J) → Distinct js → waits ticket k (without ticket k js) ≡ false
+  waits-taken k [] d = refl
+  waits-taken k (x ∷ js) d =
+      tested (eqb k (ticket x)) (λ e. let m = eqb-true k (ticket x) e in rw e (rw m (d .0))) (λ e. rw e (rw e (waits-taken k js (d .1))))
+
   pub distinct-snoc : (js : List J) (j : J) → Distinct js → waits ticket (ticket j) js ≡ false → Distinct (js ++ j ∷ [])
   distinct-snoc [] j d h = (refl, tt)
   distinct-snoc (x ∷ js) j d h = (
@@ -73,6 +79,12 @@ module _ {J : Type 0} (ticket : J → ℕ) where
   pub upto-without : (n k : ℕ) (js : List J) → UpTo n js → UpTo n (without ticket k js)
   upto-without n k [] u = tt
   upto-without n k (x ∷ js) u = tested (eqb k (ticket x)) (λ e. rw e (u .1)) (λ e. rw e (u .0, upto-without n k js (u .1)))
+
+  -- A ticket that waits was given.
+  pub waits-upto : (n k : ℕ) (js : List J) → UpTo n js → waits ticket k js ≡ true → k ≤ n
+  waits-upto n k [] u h = unlike h refl
+  waits-upto n k (x ∷ js) u h =
+      tested (eqb k (ticket x)) (λ e. let m = eqb-true k (ticket x) e in omega (arith, u .0)) (λ e. waits-upto n k js (u .1) (rw e at h))
 
   pub above-waits : (n k : ℕ) (js : List J) → UpTo n js → n < k → waits ticket k js ≡ false
   above-waits n k [] u h = refl

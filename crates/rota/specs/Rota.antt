@@ -23,13 +23,6 @@ pub data Answer (A : Type 0) : Type 0 where
   told : ℕ → A → Bool → Answer A
   withdrawn : ℕ → Answer A
 
--- The ticket that a call answers. A refused call answers ticket 0.
-abbrev pub ticketIn : {A : Type 0} → Answer A → ℕ
-ticketIn (refused n) = 0
-ticketIn (ticketed k) = k
-ticketIn (told k a last) = k
-ticketIn (withdrawn k) = k
-
 -- An answer, and what the call leaves.
 pub record Done (S A : Type 0) : Type 0 where
   pub answer : Answer A

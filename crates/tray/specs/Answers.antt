@@ -1,5 +1,7 @@
--- What the answers of the tray's calls say, by document 01: a refusal's number, with ticket 0, or a ticket, and what was said with its literals.
+-- What the answers of the tray's calls say, with the literals of what was said; and the number, place, k and ticket of each, by document 01.
+use Prim.Native.Nat.{ℕ}
 use mathlib.Core.List.{List}
+use mathlib.Core.Path.{_≡_}
 use lib.ListN.{take}
 use lib.IntN.{ℤ}
 use Rattle.dimacs.specs.Clauses as def
@@ -14,7 +16,8 @@ use Rattle.tray.specs.declared.TurnAnswer.{TurnAnswer}
 use Rattle.tray.specs.declared.TurnAnswer.the-variants as turning
 use Rattle.tray.specs.declared.WithdrawAnswer.{WithdrawAnswer}
 use Rattle.tray.specs.declared.WithdrawAnswer.the-variants as withdrawing
-use Rattle.service.specs.Serving.{Reply, opening, answering}
+use Rattle.service.specs.Serving as serving
+use Rattle.service.specs.Serving.{Reply, opening, answering, saidOf}
 
 -- An answer to a put.
 abbrev pub putSays : PutAnswer → Answer Reply
@@ -41,3 +44,38 @@ turnSays new (turning.Told k a last) = told k (replyIn new a) last
 abbrev pub withdrawSays : WithdrawAnswer → Answer Reply
 withdrawSays (withdrawing.Refused n) = refused n
 withdrawSays (withdrawing.Withdrawn k) = withdrawn k
+
+-- The number of a call that is refused, or of the refusal that a turn tells; 0 where nothing is refused.
+abbrev pub numberIn : Answer Reply → ℕ
+numberIn (refused n) = n
+numberIn (ticketed k) = 0
+numberIn (told k a last) = serving.numberIn (saidOf a)
+numberIn (withdrawn k) = 0
+
+-- The place of the refusal that a turn tells, from the job's start on. A call that is refused has place 0.
+abbrev pub placeIn : Answer Reply → ℕ
+placeIn (refused n) = 0
+placeIn (ticketed k) = 0
+placeIn (told k a last) = serving.placeIn (saidOf a)
+placeIn (withdrawn k) = 0
+
+-- k, how many literals a turn read. A call that is refused has k 0.
+abbrev pub kIn : Answer Reply → ℕ
+kIn (refused n) = 0
+kIn (ticketed k) = 0
+kIn (told k a last) = serving.kIn (saidOf a)
+kIn (withdrawn k) = 0
+
+-- The ticket. A call that is refused answers ticket 0.
+abbrev pub ticketIn : Answer Reply → ℕ
+ticketIn (refused n) = 0
+ticketIn (ticketed k) = k
+ticketIn (told k a last) = k
+ticketIn (withdrawn k) = k
+
+-- What a call that is refused answers: its number, with place, k and ticket 0.
+pub record NumberAlone (n : ℕ) (x : Answer Reply) : Type 0 where
+  pub number : numberIn x ≡ n
+  pub place : placeIn x ≡ 0
+  pub k : kIn x ≡ 0
+  pub ticket : ticketIn x ≡ 0
