@@ -1,7 +1,12 @@
 //! Links the proved readers: the static library in `LATCHTWIG_LIB_DIR` if that is set, else the one that `rt staticlib latchtwig` builds in the repository around
 //! this crate.
+//!
+//! Where there is no library, the script says why, as a warning, and does not fail: documentation and `cargo check` need none. A build then stops at "could not find native static
+//! library `latchtwig`", below the warning.
 
 use std::env;
+use std::fs::OpenOptions;
+use std::io::Write;
 use std::path::{Path, PathBuf};
 use std::process::Command;
 
@@ -11,57 +16,78 @@ const LIBRARY: &str = "liblatchtwig.a";
 fn main() {
     println!("cargo:rerun-if-env-changed={VARIABLE}");
     println!("cargo:rerun-if-changed=build.rs");
+    println!("cargo:rustc-link-lib=static=latchtwig");
+    match directory() {
+        Ok(directory) => println!("cargo:rustc-link-search=native={}", directory.display()),
+        Err(why) => {
+            // A line is a warning of its own. A file that is never there has the script run again, as whatever was missing may be there then.
+            for line in why.lines() {
+                println!("cargo:warning={line}");
+            }
+            println!("cargo:rerun-if-changed=no-library");
+        }
+    }
+}
+
+/// Where the library is, for the machine that is built for.
+fn directory() -> Result<PathBuf, String> {
     let target = env::var("TARGET").unwrap_or_default();
     if !(target.starts_with("x86_64-") && target.contains("-linux-")) {
-        stop(&format!(
+        return Err(format!(
             "the static library is for x86-64 Linux, and this build is for {target}; name another target, as in: cargo build --target x86_64-unknown-linux-gnu"
         ));
     }
-    let directory = match env::var_os(VARIABLE) {
+    match env::var_os(VARIABLE) {
         Some(named) => found(PathBuf::from(named)),
         None => built(),
-    };
-    println!("cargo:rustc-link-search=native={}", directory.display());
-    println!("cargo:rustc-link-lib=static=latchtwig");
+    }
 }
 
 /// The directory that was named, if the library is there.
-fn found(directory: PathBuf) -> PathBuf {
+fn found(directory: PathBuf) -> Result<PathBuf, String> {
     let library = directory.join(LIBRARY);
     if !library.is_file() {
-        stop(&format!(
+        return Err(format!(
             "{VARIABLE} is set, and {} is not there",
             library.display()
         ));
     }
     println!("cargo:rerun-if-changed={}", library.display());
-    directory
+    Ok(directory)
 }
 
 /// Builds the library in the repository, which proves it first, and answers its directory.
-fn built() -> PathBuf {
+fn built() -> Result<PathBuf, String> {
     let crate_directory = env::var_os("CARGO_MANIFEST_DIR").unwrap_or_default();
     let root = Path::new(&crate_directory).join("../..");
     if !root.join("crates/latchtwig/src/lib.rt").is_file() {
-        stop(&format!(
+        return Err(format!(
             "this crate does not stand in its repository; set {VARIABLE} to the directory of {LIBRARY}"
         ));
     }
     println!("cargo:rerun-if-changed={}", root.join("crates").display());
-    match Command::new("rt").args(["staticlib", "latchtwig"]).current_dir(&root).output() {
-        Ok(said) if said.status.success() => root.join("target/staticlib"),
-        Ok(said) => stop(&format!(
-            "`rt staticlib latchtwig` failed: {}{}",
+    tell("latchtwig: waiting for `rt staticlib latchtwig`, which proves the readers; the first time that takes minutes");
+    match Command::new("rt")
+        .args(["staticlib", "latchtwig"])
+        .current_dir(&root)
+        .output()
+    {
+        Ok(said) if said.status.success() => Ok(root.join("target/staticlib")),
+        Ok(said) => Err(format!(
+            "`rt staticlib latchtwig` failed\n{}{}",
             String::from_utf8_lossy(&said.stdout),
             String::from_utf8_lossy(&said.stderr)
         )),
-        Err(error) => stop(&format!(
+        Err(error) => Err(format!(
             "`rt`, the command of the Rattle toolchain, did not start ({error}); set {VARIABLE} to the directory of {LIBRARY}"
         )),
     }
 }
 
-fn stop(why: &str) -> ! {
-    eprintln!("latchtwig: {why}");
-    std::process::exit(1);
+/// Tells whoever waits. Cargo keeps what a script prints until it ends, so the line goes to the terminal itself, if there is one.
+fn tell(line: &str) {
+    eprintln!("{line}");
+    if let Ok(mut terminal) = OpenOptions::new().write(true).open("/dev/tty") {
+        let _ = writeln!(terminal, "{line}");
+    }
 }
