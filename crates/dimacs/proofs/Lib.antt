@@ -16,3 +16,11 @@ pub mod Order
 pub mod Texts
 pub mod Logs
 pub mod Writing
+pub mod WordEnds
+pub mod Alike
+pub mod AlikeWords
+pub mod AlikeRows
+pub mod AlikeClauses
+pub mod AlikeOpenings
+pub mod AlikeLogs
+pub mod Prefix

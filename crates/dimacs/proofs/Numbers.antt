@@ -26,6 +26,16 @@ unfolding decimal
 decimal-on v [] = omega arith
 decimal-on v (d ∷ r) = let h = decimal-on (v * 10 + (d - 48)) r in chosen (λ x. v ≤ x) (isDigit d) (λ _. omega arith) (λ _. omega arith)
 
+-- The number that digits write, by its first digit; where none stands it is what was written before.
+module _ (s : List ℕ) (v i : ℕ) (h : i < length s) where
+  pub decimal-more : isDigit (getD s i 0) ≡ true → decimal (v * 10 + (getD s i 0 - 48)) (drop (i + 1) s) ≡ decimal v (drop i s)
+  unfolding decimal
+  decimal-more e = rw (add-one i, drop-cons s i 0 h, e)
+
+  pub decimal-stop : isDigit (getD s i 0) ≡ false → decimal v (drop i s) ≡ v
+  unfolding decimal
+  decimal-stop e = rw (drop-cons s i 0 h, e)
+
 -- Between `at` and i stand digits, and they write v.
 pub record Read (s : List ℕ) (at i v : ℕ) : Type 0 where
   pub on : at ≤ i
@@ -47,26 +57,24 @@ pub record Above (bound : ℕ) (s : List ℕ) (at i : ℕ) : Type 0 where
 
 module _ {s : List ℕ} {at i v : ℕ} (r : Read s at i v) where
   module _ (h : i < length s) (low : 48 ≤ getD s i 0) (high : getD s i 0 ≤ 57) where
-    decimal-more : decimal (v * 10 + (getD s i 0 - 48)) (drop (i + 1) s) ≡ decimal v (drop i s)
-    unfolding decimal
-    decimal-more = rw (add-one i, drop-cons s i 0 h, is-digit (getD s i 0) low high)
+    one-more : decimal (v * 10 + (getD s i 0 - 48)) (drop (i + 1) s) ≡ decimal v (drop i s)
+    one-more = decimal-more s v i h (is-digit (getD s i 0) low high)
 
     pub read-more : Read s at (i + 1) (v * 10 + (getD s i 0 - 48))
     read-more =
         record {
           on = omega (arith, r .on);
           ends = past-more isDigit s i h (is-digit (getD s i 0) low high) ∙ r .ends;
-          value = decimal-more ∙ r .value;
+          value = one-more ∙ r .value;
         }
 
     -- The number is above whatever the digits up to this one are above.
     pub read-above : (bound : ℕ) → bound < v * 10 + (getD s i 0 - 48) → Above bound s at i
     read-above bound l =
-        record { ends = r .ends; above = omega (arith, decimal-on (v * 10 + (getD s i 0 - 48)) (drop (i + 1) s), decimal-more, r .value) }
+        record { ends = r .ends; above = omega (arith, decimal-on (v * 10 + (getD s i 0 - 48)) (drop (i + 1) s), one-more, r .value) }
 
   read-stop : i < length s → isDigit (getD s i 0) ≡ false → All s at i v
-  unfolding decimal
-  read-stop h n = record { ends = sym (r .ends) ∙ past-stop isDigit s i h n; value = sym (r .value) ∙ rw (drop-cons s i 0 h, n) }
+  read-stop h n = record { ends = sym (r .ends) ∙ past-stop isDigit s i h n; value = sym (r .value) ∙ decimal-stop s v i h n }
 
   pub read-low : i < length s → getD s i 0 < 48 → All s at i v
   read-low h l = read-stop h (below-digit (getD s i 0) l)

@@ -23,7 +23,7 @@ use Rattle.dimacs.specs.declared.Int.{Int}
 use Rattle.dimacs.specs.declared.Int.the-variants as int
 use Rattle.dimacs.specs.declared.Uint.{Uint}
 use Rattle.dimacs.specs.declared.Uint.the-variants as uint
-use Rattle.dimacs.proofs.Tests.{tested, chosen}
+use Rattle.dimacs.proofs.Tests.{tested, chosen, unlike}
 use Rattle.dimacs.proofs.Bytes.{and-false}
 use Rattle.dimacs.proofs.Loops.{after, loop-after}
 use Rattle.dimacs.proofs.Spans.{Spans, standing, moved, blanks-spans, line-end-spans, next-line-spans, newline-spans, lines-step}
@@ -42,9 +42,6 @@ abbrev pub isUint : Uint → Bool
 isUint uint.Missing = false
 isUint (uint.Value n e) = true
 isUint uint.TooBig = true
-
-unlike : {X : Type 0} → true ≡ false → X
-unlike e = let z : _≡_ {A = ℕ} 0 1 = cc in absurd (omega arith)
 
 no-int : (i : Int) → isInt i ≡ false → i ≡ int.Missing
 no-int int.Missing h = refl

@@ -25,3 +25,7 @@ both-right false b h = absurd (let z : _≡_ {A = ℕ} 0 1 = cc in omega arith)
 pub neither-right : (a b : Bool) → a || b ≡ false → b ≡ false
 neither-right true b h = absurd (let z : _≡_ {A = ℕ} 0 1 = cc in omega arith)
 neither-right false b h = h
+
+-- Whatever is wanted where true is false.
+pub unlike : {X : Type 0} → true ≡ false → X
+unlike e = let z : _≡_ {A = ℕ} 0 1 = cc in absurd (omega arith)

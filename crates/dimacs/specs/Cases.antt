@@ -15,6 +15,7 @@ use Rattle.dimacs.specs.Clauses.{nextRow, literalsFrom, literals, Answer
 use Rattle.dimacs.specs.Texts.{nextClause, answerAt, turn, answersFrom, Text, text}
 use Rattle.dimacs.specs.Logs.{LogAnswer, accepted, refusedLog, valueLine, solutionLine, logLine, logFrom, log}
 use Rattle.dimacs.specs.Writing.{Written, written, unwritten, nextDigit, digits, items, headerLine, clauseLine, writeHeader, writeClause}
+use Rattle.dimacs.specs.Seen.{answersSeen, textSeen}
 use Rattle.dimacs.specs.declared.Format.{Format}
 use Rattle.dimacs.specs.declared.Format.the-variants.{Plain, Weighted, Grouped}
 use Rattle.dimacs.specs.declared.Mode.{Mode}
@@ -211,6 +212,32 @@ stops =
 pub stops-hold : map (λ c. stoppedAt (bytes (c .quoted)) (c .at)) stops ≡ map (λ c. bytes (c .word-there)) stops
 unfolding stoppedAt lineEnd run
 stops-hold = refl
+
+-- How many bytes settle a plain text's opening and its first answers: the text, so many answers, and so many bytes.
+pub record Settles : Type 0 where
+  pub quoted : String
+  pub first : ℕ
+  pub settled-by : ℕ
+
+abbrev pub settling : List Settles
+settling =
+    record { quoted = "1 0\n2 0\n"; first = 1; settled-by = 4 }
+    ∷ record { quoted = "1 0\r\n2 0\n"; first = 1; settled-by = 5 }
+    ∷ record { quoted = "1 0"; first = 1; settled-by = 4 }
+    ∷ record { quoted = "1 0 2 0\n"; first = 1; settled-by = 7 }
+    ∷ record { quoted = "1 0\r0"; first = 1; settled-by = 5 }
+    ∷ record { quoted = "x"; first = 0; settled-by = 2 }
+    ∷ record { quoted = "0\n"; first = 2; settled-by = 3 }
+    ∷ record { quoted = "p cnf 2 1\n1 0\n2 0\n"; first = 0; settled-by = 10 }
+    ∷ record { quoted = "p cnf 2 1\n1 0\n2 0\n"; first = 1; settled-by = 14 }
+    ∷ record { quoted = "p cnf 2 1\n1 0\n2 0\n"; first = 2; settled-by = 17 }
+    ∷ record { quoted = "p cnf 2 1"; first = 0; settled-by = 10 }
+    ∷ record { quoted = "p dnf 2 1\n1 0\n"; first = 1; settled-by = 7 }
+    ∷ []
+
+pub settling-holds : map (λ c. textSeen Plain Strict 1024 (c .first) (bytes (c .quoted))) settling ≡ map (λ c. c .settled-by) settling
+unfolding loop numbered run past begins decimal lineEnd nextLine endOfLine fixed wordEnds word newline linePast commentOrNewline lines linebreaks unsigned minus uintAt intAt headerEnd thirdThere thirdCount clauseCount variableCount afterP openingOf nextInt row nextRow literalsFrom literals absent startAt closing clauseAt nextClause answerAt answersSeen
+settling-holds = refl
 
 -- What a writer is asked, and what it comes to.
 pub record Writes : Type 0 where

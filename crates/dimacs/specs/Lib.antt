@@ -11,4 +11,5 @@ pub mod Clauses
 pub mod Texts
 pub mod Logs
 pub mod Writing
+pub mod Seen
 pub mod Cases

@@ -1,0 +1,128 @@
+-- Two texts with the same first bytes have the same clauses among them. Assumes nothing.
+use Prim.Native.Nat.{ℕ, _+_, _≤_, _<_}
+use mathlib.Core.Bool.{Bool, true, false, cond}
+use mathlib.Core.List.{List, []}
+use mathlib.Core.Path.{_≡_, refl}
+use native.Mathlib.Omega.{arith}
+use borrow.Author.Tests.{lt-leb, leb-true}
+use lib.Dec.{leb, eqb}
+use lib.ListN.{length}
+use lib.IntN.{ℤ}
+use Rattle.dimacs.specs.Bytes.{isNotStop}
+use Rattle.dimacs.specs.Names.{Reason, numberOf, numbered, refusal, largest}
+use Rattle.dimacs.specs.Tokens.{blanks, lines, linebreaks, uintAt, bracedUintAt, endOfLine, lineEnds}
+use Rattle.dimacs.specs.Rows.{reads}
+use Rattle.dimacs.specs.Clauses.{Literals, nothing, closed, stopped, literals, clause, refused, Answered, says, instead, absent, startBy, startAt, closing, finish, clauseBy, clauseAt}
+use Rattle.dimacs.specs.Texts.{nextClause, answerBy, answerAt}
+use Rattle.dimacs.specs.Seen.{wordSeen, answerSeen}
+use Rattle.dimacs.specs.declared.Absence.{Absence}
+use Rattle.dimacs.specs.declared.Absence.the-variants.{MayEnd, NoClause, NoLiterals}
+use Rattle.dimacs.specs.declared.EndOfLine.{EndOfLine}
+use Rattle.dimacs.specs.declared.EndOfLine.the-variants as end
+use Rattle.dimacs.specs.declared.Final.{Final}
+use Rattle.dimacs.specs.declared.Final.the-variants as final
+use Rattle.dimacs.specs.declared.Format.{Format}
+use Rattle.dimacs.specs.declared.Format.the-variants.{Plain, Weighted, Grouped}
+use Rattle.dimacs.specs.declared.Limits.{Limits}
+use Rattle.dimacs.specs.declared.Progress.{Progress}
+use Rattle.dimacs.specs.declared.Uint.{Uint}
+use Rattle.dimacs.specs.declared.Uint.the-variants as uint
+use Rattle.dimacs.proofs.Tests.{tested}
+use Rattle.dimacs.proofs.Spans.{past-spans, lines-spans, linebreaks-spans, UintMoves, uint-moves, braced-uint-moves}
+use Rattle.dimacs.proofs.WordEnds.{NoLFBefore}
+use Rattle.dimacs.proofs.Alike.{Alike, blanks-same, lines-same, linebreaks-same}
+use Rattle.dimacs.proofs.AlikeWords.{EndSeen, end-same, UintSeen, uint-follows, braced-uint-follows}
+use Rattle.dimacs.proofs.AlikeRows.{LiteralsFollow, literals-same}
+
+module _ {n : ℕ} {s t : List ℕ} (a : Alike n s t) where
+  absent-same : (absence : Absence) (at : ℕ) → answerSeen s (instead (absent s absence at)) ≤ n
+      → (wordSeen s at ≤ n) × (instead (absent t absence at) ≡ instead (absent s absence at))
+  unfolding absent numbered
+  absent-same MayEnd at h =
+      tested (leb (length s) at)
+      (λ e. let k : at + 1 ≤ n = rw e at h in absurd (omega (arith, leb-true (length s) at e)))
+      (λ e.
+      let k : wordSeen s at ≤ n = rw e at h in
+      (k, rw (e, lt-leb (length t) at (omega (arith, past-spans s at isNotStop)))))
+  absent-same NoClause at h = (h, refl)
+  absent-same NoLiterals at h = (h, refl)
+
+  closing-same : (extra at : ℕ) (so : List ℤ) → NoLFBefore s at → answerSeen s (closing s extra at so) ≤ n
+      → (at < n) × (closing t extra at so ≡ closing s extra at so)
+  unfolding closing numbered
+  closing-same extra at so h k = let q = end-same a at h (go (endOfLine s at) k) in (q .0, rw (q .1))
+    where
+      go : (x : EndOfLine) → answerSeen s (lineEnds x (says (clause extra so)) (says (refused (refusal s Reason.lineEndExpected at) so) at)) ≤ n → EndSeen n s at x
+      go end.Missing k = k
+      go (end.Past e) k = k
+
+  module _ (limits : Limits) (room : ℕ) where
+    abbrev from : List ℕ → ℕ → ℕ → Absence → Answered
+    from x extra at absence = finish x extra at absence (literals x (limits .literals) room at)
+
+    from-same : (extra at : ℕ) (absence : Absence) → answerSeen s (from s extra at absence) ≤ n → (at + 2 ≤ n) × (from t extra at absence ≡ from s extra at absence)
+    unfolding literals
+    from-same extra at absence = go (literals s (limits .literals) room at) (literals-same a (limits .literals) room at)
+      where
+        go : (l : Literals) → LiteralsFollow a (limits .literals) room (reads at []) l → answerSeen s (finish s extra at absence l) ≤ n
+            → (at + 2 ≤ n) × (from t extra at absence ≡ finish s extra at absence l)
+        go nothing f k =
+            let q = absent-same absence at k in
+            let d = f .1 (λ _. q .0) in
+            (d .0, rw (d .1) (q .1))
+        go (closed so e) f k =
+            let q = closing-same extra e so (f .0) k in
+            let d = f .1 (q .0) in
+            (d .0, rw (d .1) (q .1))
+        go (stopped r so) f k = let d = f .1 k in (d .0, rw (d .1))
+
+    start-same : (big : ℕ) (absence : Absence) (at : ℕ) (u u′ : Uint) → UintMoves s at u → (UintSeen n s at u → u′ ≡ u)
+        → answerSeen s (clauseBy s limits room (startBy s big absence at u)) ≤ n
+        → (at + 2 ≤ n) × (clauseBy t limits room (startBy t big absence at u′) ≡ clauseBy s limits room (startBy s big absence at u))
+    unfolding numbered
+    start-same big absence at uint.Missing u′ m f k =
+        let q = absent-same absence at k in
+        (omega (arith, past-spans s at isNotStop, q .0), rw (f (q .0)) (q .1))
+    start-same big absence at uint.TooBig u′ m f k = (omega (arith, past-spans s at isNotStop), rw (f k))
+    start-same big absence at (uint.Value extra e) u′ m f k =
+        let q = from-same extra (linebreaks s e) NoLiterals k in
+        let l = linebreaks-spans s e in
+        (omega (arith, q .0), rw (f (omega (arith, q .0)), linebreaks-same a e (q .0)) (q .1))
+
+    clause-at-same : (f : Format) (absence : Absence) (at : ℕ) → answerSeen s (clauseAt s limits room f absence at) ≤ n
+        → (at + 2 ≤ n) × (clauseAt t limits room f absence at ≡ clauseAt s limits room f absence at)
+    unfolding clauseAt startAt
+    clause-at-same Plain absence at k = from-same 0 at absence k
+    clause-at-same Weighted absence at k =
+        start-same (numberOf Reason.weightTooBig) absence at (uintAt s largest at) (uintAt t largest at) (uint-moves s largest at) (uint-follows a largest at) k
+    clause-at-same Grouped absence at k =
+        let g = limits .groups in
+        start-same (numberOf Reason.groupTooBig) absence at (bracedUintAt s g at) (bracedUintAt t g at) (braced-uint-moves s g at) (braced-uint-follows a g at) k
+
+    pub next-clause-same : (f : Format) (count at : ℕ) → answerSeen s (nextClause s f limits room count at) ≤ n
+        → nextClause t f limits room count at ≡ nextClause s f limits room count at
+    unfolding nextClause
+    next-clause-same f count at k = let q = tried (eqb (limits .clauses) 0) (leb (limits .clauses) count) k in rw (place (q .0)) (q .1)
+      where
+        e : ℕ
+        e = lines s (blanks s at)
+
+        by : Bool → Bool → List ℕ → ℕ → Answered
+        by b c x i = cond b (clauseAt x limits room f MayEnd i) (cond c (instead (absent x MayEnd i)) (clauseAt x limits room f NoClause i))
+
+        tried : (b c : Bool) → answerSeen s (by b c s e) ≤ n → (e + 2 ≤ n) × (by b c t e ≡ by b c s e)
+        tried true c k = clause-at-same f MayEnd e k
+        tried false true k = let q = absent-same MayEnd e k in (omega (arith, past-spans s e isNotStop, q .0), q .1)
+        tried false false k = clause-at-same f NoClause e k
+
+        place : e + 2 ≤ n → lines t (blanks t at) ≡ e
+        place h = rw (blanks-same a at (omega (arith, lines-spans s (blanks s at)))) (lines-same a (blanks s at) h)
+
+    pub answer-same : (f : Format) (p : Progress) → answerSeen s (answerAt s f limits room p) ≤ n → answerAt t f limits room p ≡ answerAt s f limits room p
+    unfolding answerAt
+    answer-same f p = go (p .last)
+      where
+        go : (x : Final) → answerSeen s (answerBy s f limits room p x) ≤ n → answerBy t f limits room p x ≡ answerBy s f limits room p x
+        go final.Open k = next-clause-same f (p .count) (p .place) k
+        go final.Ended k = refl
+        go (final.Refused r) k = refl
