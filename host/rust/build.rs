@@ -65,7 +65,9 @@ fn built() -> Result<PathBuf, String> {
             "this crate does not stand in its repository; set {VARIABLE} to the directory of {LIBRARY}"
         ));
     }
-    println!("cargo:rerun-if-changed={}", root.join("crates").display());
+    for part in ["crates", "crates.txt"] {
+        println!("cargo:rerun-if-changed={}", root.join(part).display());
+    }
     tell("latchtwig: waiting for `rt staticlib latchtwig`, which proves the readers; the first time that takes minutes");
     match Command::new("rt")
         .args(["staticlib", "latchtwig"])
