@@ -6,12 +6,14 @@
 ghost use mathlib.Core.Bool.{Bool};
 ghost use mathlib.Core.Path.{_≡_};
 ghost use Prim.Native.Nat.{ℕ, _+_, _*_, _/_, _≤_};
+ghost use lib.ListN as list;
 ghost use lib.ListN.{length};
 ghost use Rattle.dimacs.specs.Names.{places};
 ghost use Rattle.formula.proofs.Runs.{CountFits};
 ghost use Rattle.clause.specs.declared.Next as clause;
 ghost use Rattle.service.specs.declared.Said as service;
 ghost use Rattle.service.specs.declared.Said.the-variants as saying;
+ghost use Rattle.tray.specs.Calls.{putOf, Turns};
 ghost use Rattle.tray.specs.declared.TurnAnswer.the-variants.{Told};
 use clause::Next;
 use console::clause_words;
@@ -29,6 +31,7 @@ use tray::PutAnswer;
 use tray::PutDone;
 use tray::Tray;
 use tray::TurnAnswer;
+use tray::TurnDone;
 
 // The bad text and the good ones.
 const ORDERS: usize = 41;
@@ -90,11 +93,34 @@ fn text_of(order: usize) -> usize
     1 + order % 10
 }
 
+// A put on the tray, which is lent for it.
+fn put_lent(
+    mut tray: Tray,
+    format: u8,
+    mode: u8,
+    start: usize,
+    length: usize,
+    area: &[u8],
+) -> PutDone
+    ensures { λ r. ⌜ r ≡ putOf tray (record { format = format; mode = mode; start = start; length = length; lent = list.length (now (area .entry)) }) ⌝ }
+{
+    let answer = lent_tray::put(&mut tray, format, mode, start, length, area);
+    PutDone { tray, answer }
+}
+
+// A turn of the tray, which is lent for it.
+fn turn_lent(mut tray: Tray, area: &[u8], lits: &mut [i32]) -> TurnDone
+    ensures { λ r. ⌜ Turns tray (now (area .entry)) (now (lits .entry)) (now (lits .exit)) r ⌝ }
+{
+    let answer = lent_tray::turn(&mut tray, area, lits);
+    TurnDone { tray, answer }
+}
+
 fn put_order(tray: Tray, area: &[u8; AREA], order: usize) -> PutDone {
     let text = text_of(order);
     let at = mark(area, text);
     let length = less(mark(area, text + 1), at + 1);
-    tray::put(tray, frame::u8_at(area, at), 0, at + 1, length, area)
+    put_lent(tray, frame::u8_at(area, at), 0, at + 1, length, area)
 }
 
 fn ticket_words(ticket: u64) {
@@ -189,7 +215,7 @@ fn turn_line(
     let job = front(tray);
     let slot = (job.ticket as usize) % TICKETS;
     let taken = less(turn, begun[slot]);
-    let done = tray::turn(tray, area, lits);
+    let done = turn_lent(tray, area, lits);
     let answer = done.answer;
     told_line(answer, job, taken, lits);
     done.tray

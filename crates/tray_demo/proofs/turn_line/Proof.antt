@@ -17,13 +17,13 @@ element-copy-out-less c = search needs
 less-requires : tie.Need-less-requires
 less-requires c κs = search needs
 
-turn-requires : tie.Need-turn-requires
-turn-requires c κs = search needs
+turn-lent-requires : tie.Need-turn-lent-requires
+turn-lent-requires c κs = search needs
 
 told-line-requires : tie.Need-told-line-requires
 told-line-requires c κs =
     let at-turn = c .before .before in
-    λ ticket said last next g e. rw (at-turn .turn .kept .1 .1 .0) (told-fits (at-turn .turn .ensures) g e refl)
+    λ ticket said last next g e. rw (at-turn .turn-lent .kept .1 .1 .0) (told-fits (at-turn .turn-lent .ensures) g e refl)
 
 same-length : tie.Need-same-length
 same-length c = search needs
@@ -39,7 +39,7 @@ turn-line-spec =
     mul-less
     element-copy-out-less
     less-requires
-    turn-requires
+    turn-lent-requires
     told-line-requires
     same-length
     returns)
