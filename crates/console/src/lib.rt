@@ -3,12 +3,92 @@
 // No contract says what a C function writes or how much there is to read, so most functions here have none; what the programs print is held to files.
 ghost use mathlib.Core.Bool.{false};
 ghost use mathlib.Core.Path.{_≡_};
+ghost use Prim.Native.Nat.{_≤_};
+ghost use lib.ListN.{length};
+ghost use Rattle.console.specs.Takes.{Takes};
 use dimacs::Format;
 use dimacs::Header;
 use dimacs::Opening;
 use dimacs::Refusal;
 use libc::STDIN_FILENO;
 use libc::STDOUT_FILENO;
+
+// Writes a line, and tells whether all of it was written.
+pub fn print(line: &[u8]) -> bool {
+    io::write_all(STDOUT_FILENO, line)
+}
+
+// What came of the bytes that were asked for.
+pub enum Taken {
+    // All of them.
+    Whole,
+    // So many, fewer than were asked for, and then the input ended.
+    Part(usize),
+    // A read failed.
+    Failed,
+}
+
+// Reads until the buffer is full, the input ends or a read fails.
+pub fn take(buf: &mut [u8]) -> Taken
+    ensures { λ r. ⌜ Takes (length (now (buf .entry))) r ⌝ }
+{
+    let mut done: usize = 0;
+    while done < buf.len() {
+        let rest = &mut buf[done..];
+        let got = libc::read(STDIN_FILENO, rest);
+        if got < 0 {
+            return Taken::Failed;
+        }
+        let n = io::count(got, rest);
+        if n == 0 {
+            return Taken::Part(done);
+        }
+        done += n;
+    }
+    Taken::Whole
+}
+
+// Passes over at most 4,096 bytes.
+fn skip_few(few: usize) -> Taken
+    requires { ⌜ few ≤ 4096 ⌝ }
+    ensures { λ r. ⌜ Takes few r ⌝ }
+{
+    let mut buf = io::buffer();
+    take(&mut buf[..few])
+}
+
+// Passes over so many bytes.
+pub fn skip(length: usize) -> Taken
+    ensures { λ r. ⌜ Takes length r ⌝ }
+{
+    let mut left = length;
+    while 0 < left {
+        let few = frame::smaller(left, 4096);
+        let taken = skip_few(few);
+        match taken {
+            Taken::Whole => left -= few,
+            Taken::Part(got) => return Taken::Part(length - left + got),
+            Taken::Failed => return Taken::Failed,
+        }
+    }
+    Taken::Whole
+}
+
+// What did not come whole is told, and nothing follows it.
+pub fn stop(taken: Taken) -> bool
+    ensures { λ r. ⌜ r ≡ false ⌝ }
+{
+    match taken {
+        Taken::Whole => {}
+        Taken::Part(_) => {
+            print(b"cut\n");
+        }
+        Taken::Failed => {
+            print(b"unreadable\n");
+        }
+    }
+    false
+}
 
 pub fn word(w: &[u8]) {
     io::write_all(STDOUT_FILENO, w);
@@ -138,22 +218,21 @@ pub fn case_line(case: u64) {
 pub fn cut() -> bool
     ensures { λ r. ⌜ r ≡ false ⌝ }
 {
-    word(b"cut\n");
-    false
+    stop(Taken::Part(0))
 }
 
 // Passes over at most so many bytes, and tells over how many.
-fn skip_some(most: usize) -> usize {
+fn pass_some(most: usize) -> usize {
     let mut part = io::buffer();
     let n = frame::smaller(most, part.len());
     io::read_full(STDIN_FILENO, &mut part[..n])
 }
 
 // Passes over so many bytes, and tells whether they came.
-fn skip(length: usize) -> bool {
+fn pass(length: usize) -> bool {
     let mut left = length;
     while 0 < left {
-        let got = skip_some(left);
+        let got = pass_some(left);
         if got == 0 {
             return false;
         }
@@ -165,7 +244,7 @@ fn skip(length: usize) -> bool {
 // Passes over so many bytes, which are more than are taken, and tells whether another frame may follow.
 pub fn long(length: usize) -> bool {
     word(b"long\n");
-    if skip(length) {
+    if pass(length) {
         return true;
     }
     cut()

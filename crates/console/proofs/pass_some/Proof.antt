@@ -1,10 +1,10 @@
--- `console::skip_some` lends no more of the buffer than it has. Assumes nothing.
+-- `console::pass_some` lends no more of the buffer than it has. Assumes nothing.
 use mathlib.Core.Path.{sym}
 use lib.Seq.{length-take-le}
 use borrow.Author.Needs.{needs}
 use native.Mathlib.Omega.{arith}
-use Rattle.console.proofs.skip_some.Statement.{statement}
-use Rattle.console.proofs.skip_some.Tie as tie
+use Rattle.console.proofs.pass_some.Statement.{statement}
+use Rattle.console.proofs.pass_some.Tie as tie
 
 buffer-requires : tie.Need-buffer-requires
 buffer-requires c κs = search needs
@@ -24,8 +24,8 @@ read-full-requires c κs = search needs
 returns : tie.Need-returns
 returns c = search needs
 
-pub skip-some-spec : {M : Type 1} → statement M
-skip-some-spec =
+pub pass-some-spec : {M : Type 1} → statement M
+pass-some-spec =
     tie.close
     (tie.spec
     buffer-requires

@@ -1,0 +1,2 @@
+-- What is told of the bytes that are read.
+pub mod Takes
