@@ -1,0 +1,2 @@
+-- The words for what a turn tells a job.
+pub mod Printed
