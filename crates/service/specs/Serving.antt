@@ -48,15 +48,17 @@ abbrev pub saidOf : Reply → Said
 saidOf (opening o) = said.Opening o
 saidOf (answering a) = said.Next (nextOf a)
 
--- Number, place and k of what was said are those of the opening, or of the answer.
+-- The number of the refusal that was said, 0 if none was.
 abbrev pub numberIn : Said → ℕ
 numberIn (said.Opening o) = openings.numberIn o
 numberIn (said.Next a) = answers.numberIn a
 
+-- The place of the refusal that was said, 0 if none was.
 abbrev pub placeIn : Said → ℕ
 placeIn (said.Opening o) = openings.placeIn o
 placeIn (said.Next a) = answers.placeIn a
 
+-- k, how many literals were read.
 abbrev pub kIn : Said → ℕ
 kIn (said.Opening o) = openings.kIn o
 kIn (said.Next a) = answers.kIn a
