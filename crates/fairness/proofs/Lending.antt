@@ -33,9 +33,6 @@ pub lent-finally : (es : List Event) (t : Tray) → AllKeep t es → finally t e
 lent-finally [] t h = refl
 lent-finally (e ∷ es) t h = lent-finally es (leftIn e) (h .1) ∙ ap (λ (d : Done Tray Reply). rota.finally did (d .after) (called es)) (lent-did t e (h .0))
 
-pub lent-account : LentAccount
-lent-account es h = rw (lent-said es emptyTray h, lent-finally es emptyTray h) (tray-account (called es))
-
 pub lent-refusals : LentRefusals
 lent-refusals t e n h r = (number-alone (saidIn e) n r, ap (λ (d : Done Tray Reply). d .after) (lent-did t e h) ∙ kept .1, buffer e h (kept .2))
   where
@@ -46,6 +43,9 @@ lent-refusals t e n h r = (number-alone (saidIn e) n r, ap (λ (d : Done Tray Re
     buffer (put p a u) h b = tt
     buffer (turn x a new u) h b = h .buffer ∙ b
     buffer (withdraw k a u) h b = tt
+
+pub lent-account : LentAccount
+lent-account es h = rw (lent-said es emptyTray h, lent-finally es emptyTray h) (tray-account (called es))
 
 pub lent-tickets : LentTickets
 lent-tickets es h = rw (lent-said es emptyTray h) (tray-tickets (called es))

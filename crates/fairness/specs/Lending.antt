@@ -71,12 +71,6 @@ said es = map saidIn es
 abbrev pub called : List Event → Calls
 called es = map callIn es
 
--- The account: tickets given equal verdicts answered plus withdrawals accepted plus jobs waiting.
-abbrev pub LentAccount : Type 0
-LentAccount =
-    (es : List Event) → AllKeep emptyTray es
-    → length (tickets (said es)) ≡ verdicts (said es) + withdrawals (said es) + length (waiting (finally emptyTray es))
-
 -- The buffer is as it was. Only a turn is lent one.
 abbrev pub BufferKept : Event → Type 0
 BufferKept (put p a u) = Unit {0}
@@ -86,6 +80,12 @@ BufferKept (withdraw k a u) = Unit {0}
 -- The refusals: a call on any tray that is refused answers its number alone, and changes neither the tray nor the buffer.
 abbrev pub LentRefusals : Type 0
 LentRefusals = (t : Tray) (e : Event) (n : ℕ) → Keeps t e → saidIn e ≡ refused n → NumberAlone n (saidIn e) × (leftIn e ≡ t) × BufferKept e
+
+-- The account: tickets given equal verdicts answered plus withdrawals accepted plus jobs waiting.
+abbrev pub LentAccount : Type 0
+LentAccount =
+    (es : List Event) → AllKeep emptyTray es
+    → length (tickets (said es)) ≡ verdicts (said es) + withdrawals (said es) + length (waiting (finally emptyTray es))
 
 -- The tickets: the first is 1, and each later one is one more than the one before.
 abbrev pub LentTickets : Type 0
