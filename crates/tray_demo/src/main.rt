@@ -2,29 +2,19 @@
 //
 // The area holds the bad text and ten good ones, which come again and again. They wait in a tray of 32 places; the rest are put as places come free.
 // A line is printed for each ticket given and for all that a turn tells it. Beside its verdict stand the turns taken since it was given, and the
-// most that a text of so many bytes can take.
-ghost use mathlib.Core.Bool.{Bool};
+// most that a text of so many bytes can take. Each line is laid into a page, and printed from it.
 ghost use mathlib.Core.Path.{_≡_};
-ghost use Prim.Native.Nat.{ℕ, _+_, _*_, _/_, _≤_};
+ghost use Prim.Native.Nat.{_+_, _*_, _/_, _≤_};
 ghost use lib.ListN as list;
-ghost use lib.ListN.{length};
 ghost use Rattle.dimacs.specs.Names.{places};
-ghost use Rattle.formula.proofs.Runs.{CountFits};
-ghost use Rattle.clause.specs.declared.Next as clause;
-ghost use Rattle.service.specs.declared.Said as service;
-ghost use Rattle.service.specs.declared.Said.the-variants as saying;
 ghost use Rattle.tray.specs.Calls.{putOf, Turns};
-ghost use Rattle.tray.specs.declared.TurnAnswer.the-variants.{Told};
-use clause::Next;
-use console::clause_words;
-use console::number;
-use console::opening_words;
-use console::refused_words;
-use console::word;
+use console::print;
 use dimacs::Format;
 use dimacs::PLACES;
 use dimacs::ROOM;
-use service::Said;
+use lines::number;
+use lines::upto;
+use lines::word;
 use tray::Front;
 use tray::Job;
 use tray::PutAnswer;
@@ -32,6 +22,7 @@ use tray::PutDone;
 use tray::Tray;
 use tray::TurnAnswer;
 use tray::TurnDone;
+use tray_lines::said_words;
 
 // The bad text and the good ones.
 const ORDERS: usize = 41;
@@ -44,6 +35,9 @@ const TICKETS: usize = 64;
 
 // More turns than the day takes.
 const DAY: usize = 1000;
+
+// More bytes than a line has.
+const PAGE: usize = 4096;
 
 // The most turns from its put on that a text of so many bytes can take.
 fn most_turns(bytes: usize) -> u64
@@ -58,13 +52,14 @@ fn less(a: usize, b: usize) -> usize {
     if b < a { a - b } else { 0 }
 }
 
-fn turns_words(taken: usize, bytes: usize) {
-    word(b"; bytes");
-    number(bytes as u64);
-    word(b", turns");
-    number(taken as u64);
-    word(b" of at most");
-    number(most_turns(frame::smaller(bytes, AREA)));
+// The turns that a text took, and the most that it can take.
+fn turns_words(page: &mut [u8], at: usize, taken: usize, bytes: usize) -> usize {
+    let past_bytes_word = word(page, at, b"; bytes");
+    let past_bytes = number(page, past_bytes_word, bytes as u64);
+    let past_turns_word = word(page, past_bytes, b", turns");
+    let past_turns = number(page, past_turns_word, taken as u64);
+    let past = word(page, past_turns, b" of at most");
+    number(page, past, most_turns(frame::smaller(bytes, AREA)))
 }
 
 // Where the text of this number begins. Before it stands a byte of its own, the number of its format.
@@ -123,19 +118,20 @@ fn put_order(tray: Tray, area: &[u8; AREA], order: usize) -> PutDone {
     put_lent(tray, frame::u8_at(area, at), 0, at + 1, length, area)
 }
 
-fn ticket_words(ticket: u64) {
-    word(b"ticket");
-    number(ticket);
-    word(b": ");
+fn ticket_words(page: &mut [u8], ticket: u64) -> usize {
+    let past_word = word(page, 0, b"ticket");
+    let past = number(page, past_word, ticket);
+    word(page, past, b": ")
 }
 
 // A ticket is printed, and the turns that had been taken when it was given are kept.
-fn put_line(answer: PutAnswer, begun: &mut [usize; TICKETS], turns: usize) {
+fn put_line(page: &mut [u8], answer: PutAnswer, begun: &mut [usize; TICKETS], turns: usize) {
     match answer {
         PutAnswer::Refused(_) => {}
         PutAnswer::Ticket(ticket) => {
-            ticket_words(ticket);
-            word(b"put\n");
+            let at = ticket_words(page, ticket);
+            let past = word(page, at, b"put\n");
+            print(upto(page, past));
             let slot = (ticket as usize) % TICKETS;
             begun[slot] = turns;
         }
@@ -143,14 +139,20 @@ fn put_line(answer: PutAnswer, begun: &mut [usize; TICKETS], turns: usize) {
 }
 
 // The next order is put, if one is left and there is a place. As many are put as there are tickets.
-fn feed(tray: Tray, area: &[u8; AREA], begun: &mut [usize; TICKETS], turns: usize) -> Tray {
+fn feed(
+    page: &mut [u8],
+    tray: Tray,
+    area: &[u8; AREA],
+    begun: &mut [usize; TICKETS],
+    turns: usize,
+) -> Tray {
     let order = tray.given as usize;
     if ORDERS <= order {
         return tray;
     }
     let done = put_order(tray, area, order);
     let answer = done.answer;
-    put_line(answer, begun, turns);
+    put_line(page, answer, begun, turns);
     done.tray
 }
 
@@ -167,45 +169,32 @@ fn format_of(job: Job) -> Format {
     service::format_of(stage)
 }
 
-// An answer of the reader. A clause has no more literals than are lent.
-fn next_words(next: Next, format: Format, lits: &[i32])
-    requires { ⌜ CountFits (length (now lits)) next ⌝ }
-{
-    match next {
-        Next::Clause { extra, count } => clause_words(format, extra, &lits[..count]),
-        Next::Ended => word(b"end"),
-        Next::Refused { refusal, count } => refused_words(refusal, count, b" at", b", literals"),
+// The words for a verdict's turns, or none.
+fn last_words(page: &mut [u8], at: usize, last: bool, taken: usize, bytes: usize) -> usize {
+    if last {
+        return turns_words(page, at, taken, bytes);
     }
-}
-
-fn said_words(said: Said, format: Format, lits: &[i32])
-    requires { ⌜ ((next : clause.Next) → said ≡ saying.Next next → CountFits (length (now lits)) next) ⌝ }
-{
-    match said {
-        Said::Opening(opening) => opening_words(opening, format, b" at", b", literals"),
-        Said::Next(next) => next_words(next, format, lits),
-    }
+    at
 }
 
 // What a turn tells a job. With its verdict come the turns that it took.
-fn told_line(answer: TurnAnswer, job: Job, taken: usize, lits: &[i32])
-    requires { ⌜ ((ticket : ℕ) (said : service.Said) (last : Bool) (next : clause.Next) → answer ≡ Told ticket said last → said ≡ saying.Next next → CountFits (length (now lits)) next) ⌝ }
-{
+fn told_line(page: &mut [u8], answer: TurnAnswer, job: Job, taken: usize, lits: &[i32]) {
     match answer {
         TurnAnswer::Refused(_) => {}
         TurnAnswer::Told { ticket, said, last } => {
-            ticket_words(ticket);
-            said_words(said, format_of(job), lits);
-            if last {
-                turns_words(taken, job.length);
-            }
-            word(b"\n");
+            let at = ticket_words(page, ticket);
+            let format = format_of(job);
+            let past_said = said_words(page, at, said, format, lits, b" at", b", literals");
+            let past_turns = last_words(page, past_said, last, taken, job.length);
+            let past = word(page, past_turns, b"\n");
+            print(upto(page, past));
         }
     }
 }
 
 // The turn of this number.
 fn turn_line(
+    page: &mut [u8],
     tray: Tray,
     area: &[u8; AREA],
     lits: &mut [i32],
@@ -217,26 +206,36 @@ fn turn_line(
     let taken = less(turn, begun[slot]);
     let done = turn_lent(tray, area, lits);
     let answer = done.answer;
-    told_line(answer, job, taken, lits);
+    told_line(page, answer, job, taken, lits);
     done.tray
 }
 
 // As many orders as there are places.
-fn fill(area: &[u8; AREA], begun: &mut [usize; TICKETS]) -> Tray {
+fn fill(page: &mut [u8], area: &[u8; AREA], begun: &mut [usize; TICKETS]) -> Tray {
     let mut tray = tray::empty();
     for _ in 0..PLACES {
-        tray = feed(tray, area, begun, 0);
+        tray = feed(page, tray, area, begun, 0);
     }
     tray
 }
 
-fn run(area: &[u8; AREA], lits: &mut [i32], begun: &mut [usize; TICKETS]) -> Tray {
-    let mut tray = fill(area, begun);
+fn run(page: &mut [u8], area: &[u8; AREA], lits: &mut [i32], begun: &mut [usize; TICKETS]) -> Tray {
+    let mut tray = fill(page, area, begun);
     for turn in 1..=DAY {
-        tray = turn_line(tray, area, lits, begun, turn);
-        tray = feed(tray, area, begun, turn);
+        tray = turn_line(page, tray, area, lits, begun, turn);
+        tray = feed(page, tray, area, begun, turn);
     }
     tray
+}
+
+// How many tickets were given, and how many jobs still wait.
+fn day_line(page: &mut [u8], given: u64, waiting: u64) {
+    let past_word = word(page, 0, b"tickets");
+    let past_given = number(page, past_word, given);
+    let past_comma = word(page, past_given, b", waiting");
+    let past_waiting = number(page, past_comma, waiting);
+    let past = word(page, past_waiting, b"\n");
+    print(upto(page, past));
 }
 
 fn main() {
@@ -253,10 +252,7 @@ fn main() {
         \x00c nothing chosen yet\n";
     let mut lits = [0i32; ROOM];
     let mut begun = [0usize; TICKETS];
-    let tray = run(area, &mut lits, &mut begun);
-    word(b"tickets");
-    number(tray.given);
-    word(b", waiting");
-    number(tray.count as u64);
-    word(b"\n");
+    let mut page = [0u8; PAGE];
+    let tray = run(&mut page, area, &mut lits, &mut begun);
+    day_line(&mut page, tray.given, tray.count as u64);
 }

@@ -1,15 +1,17 @@
 -- `tray_demo::fill` ends: the places left fall. Assumes nothing.
 use Prim.Native.Nat.{_-_, _≤_}
+use mathlib.Core.Path.{_≡_}
+use lib.ListN.{length}
 use Rattle.dimacs.specs.Names.{places}
 use borrow.Author.Needs.{needs}
 use Rattle.tray_demo.proofs.fill.Statement.{statement}
 use Rattle.tray_demo.proofs.fill.Tie as tie
 
 abbrev Inv-loop : tie.InvT-loop
-Inv-loop area begun₀ tray₀ counter₀ begun tray counter = counter ≤ places
+Inv-loop page₀ area begun₀ tray₀ counter₀ page begun tray counter = (counter ≤ places) × (length page ≡ length page₀)
 
 abbrev μ-loop : tie.MeasureT-loop
-μ-loop area begun₀ tray₀ counter₀ begun tray counter = places - counter
+μ-loop page₀ area begun₀ tray₀ counter₀ page begun tray counter = places - counter
 
 empty-requires : tie.Need-empty-requires Inv-loop μ-loop
 empty-requires c κs = search needs
@@ -29,6 +31,9 @@ loop-less c = search needs
 loop-again : tie.Need-loop-again Inv-loop μ-loop
 loop-again c = search needs
 
+same-length : tie.Need-same-length Inv-loop μ-loop
+same-length c = search needs
+
 returns : tie.Need-returns Inv-loop μ-loop
 returns c = search needs
 
@@ -44,4 +49,5 @@ fill-spec =
     add-counter
     loop-less
     loop-again
+    same-length
     returns)

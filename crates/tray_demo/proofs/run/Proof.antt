@@ -7,10 +7,10 @@ use Rattle.tray_demo.proofs.run.Statement.{statement}
 use Rattle.tray_demo.proofs.run.Tie as tie
 
 abbrev Inv-loop : tie.InvT-loop
-Inv-loop area lits₀ begun₀ tray₀ turn₀ lits begun tray turn = (turn ≤ 1001) × (length lits ≡ length lits₀)
+Inv-loop page₀ area lits₀ begun₀ tray₀ turn₀ page lits begun tray turn = (turn ≤ 1001) × (length page ≡ length page₀) × (length lits ≡ length lits₀)
 
 abbrev μ-loop : tie.MeasureT-loop
-μ-loop area lits₀ begun₀ tray₀ turn₀ lits begun tray turn = 1001 - turn
+μ-loop page₀ area lits₀ begun₀ tray₀ turn₀ page lits begun tray turn = 1001 - turn
 
 fill-requires : tie.Need-fill-requires Inv-loop μ-loop
 fill-requires c κs = search needs
@@ -36,6 +36,9 @@ loop-again c = search needs
 same-length : tie.Need-same-length Inv-loop μ-loop
 same-length c = search needs
 
+same-length-2 : tie.Need-same-length-2 Inv-loop μ-loop
+same-length-2 c = search needs
+
 returns : tie.Need-returns Inv-loop μ-loop
 returns c = search needs
 
@@ -53,4 +56,5 @@ run-spec =
     loop-less
     loop-again
     same-length
+    same-length-2
     returns)
