@@ -1,28 +1,29 @@
 // Runs framed cases from standard input through the host calls.
 //
-// A frame is format, mode and length, of four bytes each, little-endian, and then so many bytes of text. Each is answered by a line: the number of the refusal or 0, and its place or the text's length. A frame that is cut off, or whose text is too long, is the last.
-use console::cut;
-use libc::STDIN_FILENO;
-use libc::STDOUT_FILENO;
+// A frame is format, mode and length, of four bytes each, little-endian, and then so many bytes of text. Each is answered by a line: the number of the refusal or 0, and its place or the text's length. A frame that is cut off, or whose text is too long, is `cut`, and an input that cannot be read is `unreadable`; nothing follows them.
+ghost use Rattle.latchtwig.specs.Outcomes.{outcome};
+ghost use Rattle.lines.specs.Pages.{Lays};
+ghost use Rattle.host_cases.specs.Answers.{outcomeLine};
+use console::Taken;
 
-fn line(number: u32, place: u64) {
-    io::print_decimal(STDOUT_FILENO, number as u64);
-    console::number(place);
-    console::word(b"\n");
-}
+// The bytes of a frame before its text.
+const HEAD: usize = 12;
 
-fn answer(format: u32, mode: u32, text: &[u8]) {
+// The longest text.
+const TEXT: usize = 4096;
+
+// The longest line: a number of 32 bits, a space, a number of 64 bits and the line end.
+const PAGE: usize = 32;
+
+// What the host calls say of a text.
+fn outcome_line(page: &mut [u8], at: usize, format: u32, mode: u32, text: &[u8]) -> usize
+    ensures { λ r. ⌜ Lays at (outcomeLine (now (text .entry)) (outcome format mode (now (text .entry)))) (now (page .entry)) (now (page .exit)) r ⌝ }
+{
     let number = latchtwig::latchtwig_refusal(format, mode, text);
-    line(number, latchtwig::latchtwig_place(format, mode, text));
-}
-
-// The rest of a case whose text fills the slice lent, and whether another may follow.
-fn case(format: u32, mode: u32, text: &mut [u8]) -> bool {
-    if io::read_full(STDIN_FILENO, text) < text.len() {
-        return cut();
-    }
-    answer(format, mode, text);
-    true
+    let place = latchtwig::latchtwig_place(format, mode, text);
+    let past_number = lines::plain_number(page, at, number as u64);
+    let past_place = lines::number(page, past_number, place);
+    lines::word(page, past_place, b"\n")
 }
 
 // What a frame says before its text.
@@ -40,33 +41,48 @@ fn head_of(frame: &[u8]) -> Head {
     }
 }
 
+// The rest of a case whose text fills the slice lent, and whether another may follow.
+fn case(page: &mut [u8], head: Head, text: &mut [u8]) -> bool {
+    let taken = console::take(text);
+    let Taken::Whole = taken else {
+        return console::stop(taken);
+    };
+    let past = outcome_line(page, 0, head.format, head.mode, text);
+    console::print(lines::upto(page, past));
+    true
+}
+
 // The rest of a case, and whether another may follow.
-fn framed(head: Head) -> bool {
+fn framed(page: &mut [u8], head: Head, text: &mut [u8]) -> bool {
     let length = head.length;
-    let mut text = io::buffer();
     if text.len() < length {
-        return cut();
+        console::print(b"cut\n");
+        return false;
     }
-    case(head.format, head.mode, &mut text[..length])
+    case(page, head, &mut text[..length])
 }
 
 // One case, and whether another may follow.
-fn one() -> bool {
-    let mut frame = [0u8; 12];
-    let got = io::read_full(STDIN_FILENO, &mut frame);
-    if got == 0 {
-        return false;
+fn one(page: &mut [u8], text: &mut [u8]) -> bool {
+    let mut frame = [0u8; HEAD];
+    let taken = console::take(&mut frame);
+    match taken {
+        Taken::Whole => framed(page, head_of(&frame), text),
+        Taken::Part(got) => 0 < got && console::stop(taken),
+        Taken::Failed => console::stop(taken),
     }
-    if got < 12 {
-        return cut();
-    }
-    framed(head_of(&frame))
 }
 
-fn main() {
+fn cases(page: &mut [u8], text: &mut [u8]) {
     for _ in 0..u64::MAX {
-        if !one() {
+        if !one(page, text) {
             return;
         }
     }
+}
+
+fn main() {
+    let mut page = [0u8; PAGE];
+    let mut text = [0u8; TEXT];
+    cases(&mut page, &mut text);
 }
