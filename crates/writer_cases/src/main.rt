@@ -4,24 +4,26 @@
 // eight bytes; and the count of literals and so many literals, of four bytes each; all little-endian. Kind 0 is a header, of these three counts; kind 1 is
 // a clause, and the first number its weight or group. Each call is answered by `case N` and `written LENGTH BYTES`, the bytes in hexadecimal, or by
 // `refused NUMBER PLACE 0`. A kind that is neither is refused as a format is that is none of the three.
-ghost use mathlib.Core.Path.{_≡_};
-ghost use Prim.Native.Nat.{_≤_};
-ghost use lib.ListN.{length};
-ghost use Rattle.writer.specs.Answers.{lineLength};
-use console::cut;
-use console::number;
-use console::word;
+// Too many literals are `long`, and passed over; a frame that is cut off is `cut`, and an input that cannot be read is `unreadable`, and nothing follows them.
+ghost use Rattle.lines.specs.Pages.{Lays};
+ghost use Rattle.writer_cases.specs.Answers.{writtenLine, refusedLine, answerLine};
+use console::Taken;
 use dimacs::FORMAT_OR_MODE_UNKNOWN;
 use dimacs::Format;
 use dimacs::Header;
 use dimacs::Kind;
 use dimacs::LARGEST;
 use dimacs::Refusal;
-use libc::STDIN_FILENO;
 use writer::Written;
 
 // The bytes of a frame before its literals.
 const HEAD: usize = 34;
+
+// The longest output.
+const OUTPUT: usize = 65536;
+
+// The longest line: `written`, a space, the output's length in five digits, a space, two digits for each of its bytes, and the line end.
+const PAGE: usize = 15 + 2 * OUTPUT;
 
 // What a frame asks for, but for the literals and the output.
 struct Call {
@@ -57,40 +59,53 @@ fn untouched(out: &[u8], from: usize) -> bool {
 
 // Says so if a call changed more than its line. It is proved that none does.
 fn rest(out: &[u8], from: usize) {
-    if untouched(out, from) {
-        return;
+    if !untouched(out, from) {
+        console::print(b"touched\n");
     }
-    word(b"touched\n");
 }
 
-fn line(out: &[u8], n: usize)
-    requires { ⌜ n ≤ length (now out) ⌝ }
+fn written_line(page: &mut [u8], at: usize, w: &[u8]) -> usize
+    ensures { λ r. ⌜ Lays at (writtenLine (now (w .entry))) (now (page .entry)) (now (page .exit)) r ⌝ }
 {
-    word(b"written");
-    number(n as u64);
-    word(b" ");
-    console::hex_word(&out[..n]);
-    word(b"\n");
-    rest(out, n);
+    let past_word = lines::word(page, at, b"written");
+    let past_number = lines::number(page, past_word, w.len() as u64);
+    let past_space = lines::word(page, past_number, b" ");
+    let past_bytes = lines::hex_word(page, past_space, w);
+    lines::word(page, past_bytes, b"\n")
 }
 
-fn refused(out: &[u8], r: Refusal) {
-    console::refused_words(r, 0, b"", b"");
-    word(b"\n");
-    rest(out, 0);
+fn refused_line(page: &mut [u8], at: usize, r: Refusal) -> usize
+    ensures { λ past. ⌜ Lays at (refusedLine r) (now (page .entry)) (now (page .exit)) past ⌝ }
+{
+    let past = lines::refused_words(page, at, r, 0, b"", b"");
+    lines::word(page, past, b"\n")
+}
+
+// The answer of a call that left this output.
+fn answer_line(page: &mut [u8], at: usize, answer: Written, out: &[u8]) -> usize
+    ensures { λ r. ⌜ Lays at (answerLine answer (now (out .entry))) (now (page .entry)) (now (page .exit)) r ⌝ }
+{
+    match answer {
+        Written::Line(n) => written_line(page, at, lines::upto(out, n)),
+        Written::Refused(refusal) => refused_line(page, at, refusal),
+    }
+}
+
+// How long a line was written.
+fn line_length(answer: Written) -> usize {
+    match answer {
+        Written::Line(n) => n,
+        Written::Refused(_) => 0,
+    }
 }
 
 // The answer where a number names no format or no kind.
-fn unknown() -> Written
-    ensures { λ r. ⌜ lineLength r ≡ 0 ⌝ }
-{
+fn unknown() -> Written {
     Written::Refused(dimacs::refuse_call(FORMAT_OR_MODE_UNKNOWN, 0))
 }
 
 // The call of a kind, made.
-fn of_kind(format: Format, call: Call, lits: &[i32], out: &mut [u8]) -> Written
-    ensures { λ r. ⌜ lineLength r ≤ length (now (out .entry)) ⌝ }
-{
+fn of_kind(format: Format, call: Call, lits: &[i32], out: &mut [u8]) -> Written {
     let kind = call.kind;
     match kind {
         0 => writer::write_header(
@@ -108,9 +123,7 @@ fn of_kind(format: Format, call: Call, lits: &[i32], out: &mut [u8]) -> Written
 }
 
 // The call made, of the format and the kind that its numbers name.
-fn made(call: Call, lits: &[i32], out: &mut [u8]) -> Written
-    ensures { λ r. ⌜ lineLength r ≤ length (now (out .entry)) ⌝ }
-{
+fn made(call: Call, lits: &[i32], out: &mut [u8]) -> Written {
     match dimacs::kind_of(call.format, 0) {
         Kind::Clauses(format, _) => of_kind(format, call, lits, out),
         Kind::Log(_) => unknown(),
@@ -119,35 +132,36 @@ fn made(call: Call, lits: &[i32], out: &mut [u8]) -> Written
 }
 
 // A call made on an output that is filled before it, and its answer printed.
-fn answer(call: Call, lits: &[i32], out: &mut [u8]) {
+fn answer(page: &mut [u8], call: Call, lits: &[i32], out: &mut [u8]) {
     fill(out);
-    match made(call, lits, out) {
-        Written::Line(n) => line(out, n),
-        Written::Refused(refusal) => refused(out, refusal),
-    }
+    let answer = made(call, lits, out);
+    let past = answer_line(page, 0, answer, out);
+    console::print(lines::upto(page, past));
+    rest(out, line_length(answer));
 }
 
-// The next literals of the input, and whether they came.
+// Takes the next literals of the input, and answers whether they came; if not, that is told.
 fn literals(lits: &mut [i32]) -> bool {
     let mut i: usize = 0;
     while i < lits.len() {
         let mut b = [0u8; 4];
-        if io::read_full(STDIN_FILENO, &mut b) < 4 {
-            return false;
-        }
+        let taken = console::take(&mut b);
+        let Taken::Whole = taken else {
+            return console::stop(taken);
+        };
         lits[i] = frame::signed32(frame::u32_at(&b, 0));
         i += 1;
     }
     true
 }
 
-// A call once its literals came, and whether they did.
-fn called(call: Call, lits: &mut [i32], out: &mut [u8]) -> bool {
-    if literals(lits) {
-        answer(call, lits, out);
-        return true;
+// A call once its literals came, and whether another frame may follow.
+fn called(page: &mut [u8], call: Call, lits: &mut [i32], out: &mut [u8]) -> bool {
+    if !literals(lits) {
+        return false;
     }
-    cut()
+    answer(page, call, lits, out);
+    true
 }
 
 fn call_of(frame: &[u8]) -> Call {
@@ -160,39 +174,61 @@ fn call_of(frame: &[u8]) -> Call {
     }
 }
 
+// Passes over so many bytes, which are more than are taken, and tells whether another frame may follow.
+fn long(length: usize) -> bool {
+    console::print(b"long\n");
+    let taken = console::skip(length);
+    let Taken::Whole = taken else {
+        return console::stop(taken);
+    };
+    true
+}
+
 // The call of a frame, its output and literals no longer than those lent, and whether another frame may follow.
-fn framed(frame: &[u8], lits: &mut [i32], out: &mut [u8]) -> bool {
+fn framed(page: &mut [u8], frame: &[u8], lits: &mut [i32], out: &mut [u8]) -> bool {
     let given = frame::u32_at(frame, 30) as usize;
     if lits.len() < given {
-        return console::long(4 * given);
+        return long(4 * given);
     }
     let lent = frame::smaller(frame::u32_at(frame, 2) as usize, out.len());
-    called(call_of(frame), &mut lits[..given], &mut out[..lent])
+    called(page, call_of(frame), &mut lits[..given], &mut out[..lent])
+}
+
+fn case_line(page: &mut [u8], case: u64) {
+    let past = lines::case_line(page, 0, case);
+    console::print(lines::upto(page, past));
 }
 
 // One case, and whether another may follow.
-fn one(case: u64, lits: &mut [i32], out: &mut [u8]) -> bool {
+fn one(page: &mut [u8], case: u64, lits: &mut [i32], out: &mut [u8]) -> bool {
     let mut frame = [0u8; HEAD];
-    let got = io::read_full(STDIN_FILENO, &mut frame);
-    if got == 0 {
-        return false;
+    let taken = console::take(&mut frame);
+    match taken {
+        Taken::Whole => {
+            case_line(page, case);
+            framed(page, &frame, lits, out)
+        }
+        Taken::Part(got) => {
+            if got == 0 {
+                return false;
+            }
+            case_line(page, case);
+            console::stop(taken)
+        }
+        Taken::Failed => console::stop(taken),
     }
-    console::case_line(case);
-    if got < HEAD {
-        return cut();
-    }
-    framed(&frame, lits, out)
 }
 
-fn cases(lits: &mut [i32], out: &mut [u8]) {
+fn cases(page: &mut [u8], lits: &mut [i32], out: &mut [u8]) {
     let mut case: u64 = 0;
-    while case < LARGEST && one(case, lits, out) {
+    while case < LARGEST && one(page, case, lits, out) {
         case += 1;
     }
 }
 
 fn main() {
+    let mut page = [0u8; PAGE];
     let mut lits = [0i32; 8192];
-    let mut out = io::large_buffer();
-    cases(&mut lits, &mut out);
+    let mut out = [0u8; OUTPUT];
+    cases(&mut page, &mut lits, &mut out);
 }

@@ -7,10 +7,10 @@ use Rattle.writer_cases.proofs.cases.Statement.{statement}
 use Rattle.writer_cases.proofs.cases.Tie as tie
 
 abbrev Inv-loop : tie.InvT-loop
-Inv-loop lits₀ out₀ case₀ lits out case = (case ≤ 18446744073709551615) × (length lits ≡ length lits₀) × (length out ≡ length out₀)
+Inv-loop page₀ lits₀ out₀ case₀ page lits out case = (case ≤ 18446744073709551615) × (length page ≡ length page₀) × (length lits ≡ length lits₀) × (length out ≡ length out₀)
 
 abbrev μ-loop : tie.MeasureT-loop
-μ-loop lits₀ out₀ case₀ lits out case = 18446744073709551615 - case
+μ-loop page₀ lits₀ out₀ case₀ page lits out case = 18446744073709551615 - case
 
 loop-holds : tie.Need-loop-holds Inv-loop μ-loop
 loop-holds c = search needs
@@ -33,14 +33,20 @@ same-length c = search needs
 same-length-2 : tie.Need-same-length-2 Inv-loop μ-loop
 same-length-2 c = search needs
 
-returns : tie.Need-returns Inv-loop μ-loop
-returns c = search needs
-
 same-length-3 : tie.Need-same-length-3 Inv-loop μ-loop
 same-length-3 c = search needs
 
+returns : tie.Need-returns Inv-loop μ-loop
+returns c = search needs
+
 same-length-4 : tie.Need-same-length-4 Inv-loop μ-loop
 same-length-4 c = search needs
+
+same-length-5 : tie.Need-same-length-5 Inv-loop μ-loop
+same-length-5 c = search needs
+
+same-length-6 : tie.Need-same-length-6 Inv-loop μ-loop
+same-length-6 c = search needs
 
 returns-2 : tie.Need-returns-2 Inv-loop μ-loop
 returns-2 c = search needs
@@ -58,7 +64,9 @@ cases-spec =
     loop-again
     same-length
     same-length-2
-    returns
     same-length-3
+    returns
     same-length-4
+    same-length-5
+    same-length-6
     returns-2)

@@ -15,11 +15,17 @@ abbrev μ-loop : tie.MeasureT-loop
 loop-holds : tie.Need-loop-holds Inv-loop μ-loop
 loop-holds c = search needs
 
-slice-aggregate-read-full : tie.Need-slice-aggregate-read-full Inv-loop μ-loop
-slice-aggregate-read-full c = search needs
+slice-aggregate-take : tie.Need-slice-aggregate-take Inv-loop μ-loop
+slice-aggregate-take c = search needs
 
-read-full-requires : tie.Need-read-full-requires Inv-loop μ-loop
-read-full-requires c κs = search needs
+take-requires : tie.Need-take-requires Inv-loop μ-loop
+take-requires c κs = search needs
+
+enum-told : tie.Need-enum-told Inv-loop μ-loop
+enum-told c = search needs
+
+stop-requires : tie.Need-stop-requires Inv-loop μ-loop
+stop-requires c κs = search needs
 
 same-length : tie.Need-same-length Inv-loop μ-loop
 same-length c = search needs
@@ -36,8 +42,8 @@ u32-at-requires c κs = search needs
 signed32-requires : tie.Need-signed32-requires Inv-loop μ-loop
 signed32-requires c κs = search needs
 
-mul-t4 : tie.Need-mul-t4 Inv-loop μ-loop
-mul-t4 c = search needs
+mul-t5 : tie.Need-mul-t5 Inv-loop μ-loop
+mul-t5 c = search needs
 
 slice-set-from-lits : tie.Need-slice-set-from-lits Inv-loop μ-loop
 slice-set-from-lits c = search needs
@@ -64,14 +70,16 @@ literals-spec =
     Inv-loop
     μ-loop
     loop-holds
-    slice-aggregate-read-full
-    read-full-requires
+    slice-aggregate-take
+    take-requires
+    enum-told
+    stop-requires
     same-length
     returns
     slice-aggregate-u32-at
     u32-at-requires
     signed32-requires
-    mul-t4
+    mul-t5
     slice-set-from-lits
     add-i
     loop-less

@@ -1,9 +1,8 @@
--- `writer_cases::line` lends no more of the output than it has. Assumes nothing.
-use mathlib.Core.Path.{sym}
-use lib.Seq.{length-take-le}
+-- `writer_cases::written_line` meets its contract: its pieces in order. Assumes nothing.
+use Rattle.lines.proofs.Pages.{lay-then}
 use borrow.Author.Needs.{needs}
-use Rattle.writer_cases.proofs.line.Statement.{statement}
-use Rattle.writer_cases.proofs.line.Tie as tie
+use Rattle.writer_cases.proofs.written_line.Statement.{statement}
+use Rattle.writer_cases.proofs.written_line.Tie as tie
 
 slice-aggregate-word : tie.Need-slice-aggregate-word
 slice-aggregate-word c = search needs
@@ -20,14 +19,6 @@ slice-aggregate-word-2 c = search needs
 word-requires-2 : tie.Need-word-requires-2
 word-requires-2 c κs = search needs
 
-slice-aggregate-hex-word : tie.Need-slice-aggregate-hex-word
-slice-aggregate-hex-word c =
-    let at-space = c .before in
-    let at-number = at-space .before .before in
-    let at-word = at-number .before in
-    let start = at-word .before .before .before in
-    sym (length-take-le _ (start .args .out .now) (start .pre))
-
 hex-word-requires : tie.Need-hex-word-requires
 hex-word-requires c κs = search needs
 
@@ -37,14 +28,20 @@ slice-aggregate-word-3 c = search needs
 word-requires-3 : tie.Need-word-requires-3
 word-requires-3 c κs = search needs
 
-rest-requires : tie.Need-rest-requires
-rest-requires c κs = search needs
+same-length : tie.Need-same-length
+same-length c = search needs
 
 returns : tie.Need-returns
-returns c = search needs
+returns c =
+    let at-end = c .before .before in
+    let at-bytes = at-end .before .before .before .before .before in
+    let at-space = at-bytes .before .before .before .before in
+    let at-number = at-space .before .before .before .before .before in
+    let at-word = at-number .before .before .before .before in
+    lay-then (lay-then (lay-then (lay-then (at-word .word .ensures) (at-number .number .ensures)) (at-space .word2 .ensures)) (at-bytes .hex-word .ensures)) (at-end .word3 .ensures)
 
-pub line-spec : {M : Type 1} → statement M
-line-spec =
+pub written-line-spec : {M : Type 1} → statement M
+written-line-spec =
     tie.close
     (tie.spec
     slice-aggregate-word
@@ -52,9 +49,8 @@ line-spec =
     number-requires
     slice-aggregate-word-2
     word-requires-2
-    slice-aggregate-hex-word
     hex-word-requires
     slice-aggregate-word-3
     word-requires-3
-    rest-requires
+    same-length
     returns)
