@@ -14,7 +14,7 @@ GOOD, BAD = b"1 -2 0\n", b"1 0 2 0\n"
 
 
 def run(*words):
-    done = subprocess.run([*sys.argv[1:], *words], stdout=subprocess.PIPE, stderr=subprocess.PIPE)
+    done = subprocess.run([*sys.argv[1:], *words], stdout=subprocess.PIPE, stderr=subprocess.PIPE, timeout=60)
     return done.returncode, done.stdout.decode(), done.stderr.decode()
 
 
