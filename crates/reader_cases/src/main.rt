@@ -3,41 +3,51 @@
 // A frame is format, mode, room and length, of one, one, four and four bytes, little-endian, and then so many
 // bytes of text. Each is answered by `case N` and what the reader of its format says of the text, line by line.
 use clause::Next;
-use console::clause_line;
-use console::cut;
-use console::end_line;
-use console::header_line;
-use console::hex_word;
-use console::literals;
-use console::word;
+use console::Taken;
+use console::stop;
+use dimacs::Format;
 use dimacs::LARGEST;
 use dimacs::LOG_FORMAT;
 use dimacs::Opening;
 use dimacs::Refusal;
 use dimacs::Verdict;
 use formula::Cursor;
-use libc::STDIN_FILENO;
+use lines::clause_line;
+use lines::word;
 use log_line::Log;
 
-// The word that a refusal stopped at, if there is one.
-fn stopped_word(w: &[u8]) {
-    if 0 < w.len() {
-        word(b" ");
-        hex_word(w);
-    }
+// Prints what is laid in the page up to a place.
+fn show(page: &[u8], past: usize) {
+    console::print(lines::upto(page, past));
 }
 
-// Number, place and k of a refusal, and the word it stopped at. Where a format or mode is unknown no text is at fault, and there is no word.
-fn refused_line(text: &[u8], r: Refusal, count: usize) {
-    console::refused_words(r, count, b"", b"");
-    if r.number != dimacs::FORMAT_OR_MODE_UNKNOWN {
-        stopped_word(token::stopped_at(text, r.place));
+// The word that a refusal stopped at, if there is one.
+fn stopped_word(page: &mut [u8], at: usize, w: &[u8]) -> usize {
+    if 0 < w.len() {
+        let past = word(page, at, b" ");
+        return lines::hex_word(page, past, w);
     }
-    word(b"\n");
+    at
+}
+
+// Where a format or mode is unknown no text is at fault, and there is no word.
+fn word_of(page: &mut [u8], at: usize, text: &[u8], r: Refusal) -> usize {
+    if r.number == dimacs::FORMAT_OR_MODE_UNKNOWN {
+        return at;
+    }
+    stopped_word(page, at, token::stopped_at(text, r.place))
+}
+
+// Number, place and k of a refusal, and the word it stopped at.
+fn refused(page: &mut [u8], text: &[u8], r: Refusal, count: usize) {
+    let past_count = lines::refused_words(page, 0, r, count, b"", b"");
+    let past_word = word_of(page, past_count, text, r);
+    let past = word(page, past_word, b"\n");
+    show(page, past);
 }
 
 // The clauses from a cursor on, and the end or the refusal.
-fn clauses(text: &[u8], from: Cursor, lits: &mut [i32]) {
+fn clauses(text: &[u8], from: Cursor, lits: &mut [i32], page: &mut [u8]) {
     let mut cursor = from;
     let format = from.format;
     loop {
@@ -45,64 +55,96 @@ fn clauses(text: &[u8], from: Cursor, lits: &mut [i32]) {
         cursor = step.cursor;
         let answer = step.answer;
         match answer {
-            Next::Clause { extra, count } => clause_line(format, extra, &lits[..count]),
-            Next::Ended => return end_line(),
-            Next::Refused { refusal, count } => return refused_line(text, refusal, count),
+            Next::Clause { extra, count } => {
+                let past = clause_line(page, 0, format, extra, &lits[..count]);
+                show(page, past);
+            }
+            Next::Ended => {
+                console::print(b"end\n");
+                return;
+            }
+            Next::Refused { refusal, count } => return refused(page, text, refusal, count),
         }
     }
 }
 
-fn formula_lines(text: &[u8], format: u8, mode: u8, lits: &mut [i32]) {
+// The line of a header, or of none; a refusal is told by the first clause.
+fn opening_line(page: &mut [u8], opening: Opening, format: Format) -> usize {
+    match opening {
+        Opening::Header(header, _) => lines::header_line(page, 0, header, format),
+        Opening::NoHeader(_) => word(page, 0, b"header none\n"),
+        Opening::Refused(_) => 0,
+    }
+}
+
+fn formula_lines(text: &[u8], format: u8, mode: u8, lits: &mut [i32], page: &mut [u8]) {
     let opened = formula::open(text, format, mode);
     let opening = opened.opening;
     let cursor = opened.cursor;
     let named = cursor.format;
-    match opening {
-        Opening::Header(header, _) => header_line(header, named),
-        Opening::NoHeader(_) => word(b"header none\n"),
-        Opening::Refused(_) => {}
-    }
-    clauses(text, cursor, lits);
+    let past = opening_line(page, opening, named);
+    show(page, past);
+    clauses(text, cursor, lits, page);
 }
 
-fn verdict_word(verdict: Verdict) {
+fn verdict_line(page: &mut [u8], verdict: Verdict) -> usize {
     match verdict {
-        Verdict::Yes => word(b" yes"),
-        Verdict::No => word(b" no"),
-        Verdict::Unknown => word(b" unknown"),
+        Verdict::Yes => word(page, 0, b"verdict yes\n"),
+        Verdict::No => word(page, 0, b"verdict no\n"),
+        Verdict::Unknown => word(page, 0, b"verdict unknown\n"),
     }
 }
 
-fn accepted_lines(verdict: Verdict, lits: &[i32]) {
-    word(b"verdict");
-    verdict_word(verdict);
-    word(b"\nliterals");
-    literals(lits);
-    word(b"\n");
+fn literals_line(page: &mut [u8], lits: &[i32]) -> usize {
+    let past_word = word(page, 0, b"literals");
+    let past = lines::literals(page, past_word, lits);
+    word(page, past, b"\n")
 }
 
-fn log_lines(text: &[u8], mode: u8, lits: &mut [i32]) {
+fn accepted(page: &mut [u8], verdict: Verdict, lits: &[i32]) {
+    let past_verdict = verdict_line(page, verdict);
+    show(page, past_verdict);
+    let past = literals_line(page, lits);
+    show(page, past);
+}
+
+fn log_lines(text: &[u8], mode: u8, lits: &mut [i32], page: &mut [u8]) {
     match sat_solver_log::parse_log(text, mode, lits) {
-        Log::Accepted { verdict, count } => accepted_lines(verdict, &lits[..count]),
-        Log::Refused { refusal, count } => refused_line(text, refusal, count),
+        Log::Accepted { verdict, count } => accepted(page, verdict, &lits[..count]),
+        Log::Refused { refusal, count } => refused(page, text, refusal, count),
     }
 }
 
 // What the reader of a format says of the text. What is no format is left to the reader of formulas, which refuses it.
-fn reader_lines(text: &[u8], format: u8, mode: u8, lits: &mut [i32]) {
+fn reader_lines(text: &[u8], format: u8, mode: u8, lits: &mut [i32], page: &mut [u8]) {
     if format == LOG_FORMAT {
-        return log_lines(text, mode, lits);
+        return log_lines(text, mode, lits, page);
     }
-    formula_lines(text, format, mode, lits)
+    formula_lines(text, format, mode, lits, page)
+}
+
+// Whether all that was asked for came; what did not is told.
+fn came(taken: Taken) -> bool {
+    match taken {
+        Taken::Whole => true,
+        Taken::Part(_) => stop(taken),
+        Taken::Failed => stop(taken),
+    }
 }
 
 // The text of a frame, and whether it came whole.
-fn text_lines(text: &mut [u8], format: u8, mode: u8, lits: &mut [i32]) -> bool {
-    if io::read_full(STDIN_FILENO, text) < text.len() {
-        return cut();
+fn text_lines(text: &mut [u8], format: u8, mode: u8, lits: &mut [i32], page: &mut [u8]) -> bool {
+    if came(console::take(text)) {
+        reader_lines(text, format, mode, lits, page);
+        return true;
     }
-    reader_lines(text, format, mode, lits);
-    true
+    false
+}
+
+// Passes over a text that is longer than is taken, and tells whether another frame may follow.
+fn long(length: usize) -> bool {
+    console::print(b"long\n");
+    came(console::skip(length))
 }
 
 // What a frame says before its text.
@@ -123,10 +165,10 @@ fn head_of(frame: &[u8]) -> Head {
 }
 
 // The rest of a case, and whether another may follow.
-fn framed(head: Head, text: &mut [u8], lits: &mut [i32]) -> bool {
+fn framed(head: Head, text: &mut [u8], lits: &mut [i32], page: &mut [u8]) -> bool {
     let length = head.length;
     if text.len() < length {
-        return console::long(length);
+        return long(length);
     }
     let room = frame::smaller(head.room, lits.len());
     text_lines(
@@ -134,26 +176,41 @@ fn framed(head: Head, text: &mut [u8], lits: &mut [i32]) -> bool {
         head.format,
         head.mode,
         &mut lits[..room],
+        page,
     )
 }
 
-// One case, and whether another may follow.
-fn one(case: u64, text: &mut [u8], lits: &mut [i32]) -> bool {
-    let mut frame = [0u8; 10];
-    let got = io::read_full(STDIN_FILENO, &mut frame);
+fn show_case(page: &mut [u8], case: u64) {
+    let past = lines::case_line(page, 0, case);
+    show(page, past);
+}
+
+// A frame that is cut off, if any of it came.
+fn cut(page: &mut [u8], case: u64, got: usize) -> bool {
     if got == 0 {
         return false;
     }
-    console::case_line(case);
-    if got < 10 {
-        return cut();
-    }
-    framed(head_of(&frame), text, lits)
+    show_case(page, case);
+    stop(Taken::Part(got))
 }
 
-fn cases(text: &mut [u8], lits: &mut [i32]) {
+// One case, and whether another may follow.
+fn one(case: u64, text: &mut [u8], lits: &mut [i32], page: &mut [u8]) -> bool {
+    let mut frame = [0u8; 10];
+    let taken = console::take(&mut frame);
+    match taken {
+        Taken::Whole => {
+            show_case(page, case);
+            framed(head_of(&frame), text, lits, page)
+        }
+        Taken::Part(got) => cut(page, case, got),
+        Taken::Failed => stop(taken),
+    }
+}
+
+fn cases(text: &mut [u8], lits: &mut [i32], page: &mut [u8]) {
     let mut case: u64 = 0;
-    while case < LARGEST && one(case, text, lits) {
+    while case < LARGEST && one(case, text, lits, page) {
         case += 1;
     }
 }
@@ -161,5 +218,6 @@ fn cases(text: &mut [u8], lits: &mut [i32]) {
 fn main() {
     let mut text = io::large_buffer();
     let mut lits = [0i32; 4096];
-    cases(&mut text, &mut lits);
+    let mut page = io::large_buffer();
+    cases(&mut text, &mut lits, &mut page);
 }

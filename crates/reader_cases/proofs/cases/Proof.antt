@@ -7,10 +7,10 @@ use Rattle.reader_cases.proofs.cases.Statement.{statement}
 use Rattle.reader_cases.proofs.cases.Tie as tie
 
 abbrev Inv-loop : tie.InvT-loop
-Inv-loop text₀ lits₀ case₀ text lits case = (case ≤ 18446744073709551615) × (length text ≡ length text₀) × (length lits ≡ length lits₀)
+Inv-loop text₀ lits₀ page₀ case₀ text lits page case = (case ≤ 18446744073709551615) × (length text ≡ length text₀) × (length lits ≡ length lits₀) × (length page ≡ length page₀)
 
 abbrev μ-loop : tie.MeasureT-loop
-μ-loop text₀ lits₀ case₀ text lits case = 18446744073709551615 - case
+μ-loop text₀ lits₀ page₀ case₀ text lits page case = 18446744073709551615 - case
 
 loop-holds : tie.Need-loop-holds Inv-loop μ-loop
 loop-holds c = search needs
@@ -33,14 +33,20 @@ same-length c = search needs
 same-length-2 : tie.Need-same-length-2 Inv-loop μ-loop
 same-length-2 c = search needs
 
-returns : tie.Need-returns Inv-loop μ-loop
-returns c = search needs
-
 same-length-3 : tie.Need-same-length-3 Inv-loop μ-loop
 same-length-3 c = search needs
 
+returns : tie.Need-returns Inv-loop μ-loop
+returns c = search needs
+
 same-length-4 : tie.Need-same-length-4 Inv-loop μ-loop
 same-length-4 c = search needs
+
+same-length-5 : tie.Need-same-length-5 Inv-loop μ-loop
+same-length-5 c = search needs
+
+same-length-6 : tie.Need-same-length-6 Inv-loop μ-loop
+same-length-6 c = search needs
 
 returns-2 : tie.Need-returns-2 Inv-loop μ-loop
 returns-2 c = search needs
@@ -58,7 +64,9 @@ cases-spec =
     loop-again
     same-length
     same-length-2
-    returns
     same-length-3
+    returns
     same-length-4
+    same-length-5
+    same-length-6
     returns-2)

@@ -35,6 +35,9 @@ same-length c = search needs
 same-length-2 : tie.Need-same-length-2
 same-length-2 c = search needs
 
+same-length-3 : tie.Need-same-length-3
+same-length-3 c = search needs
+
 returns-2 : tie.Need-returns-2
 returns-2 c = search needs
 
@@ -52,4 +55,5 @@ framed-spec =
     text-lines-requires
     same-length
     same-length-2
+    same-length-3
     returns-2)

@@ -12,31 +12,37 @@ parse-log-requires c κs = search needs
 enum-known-verdict : tie.Need-enum-known-verdict
 enum-known-verdict c = search needs
 
-slice-reshare-prefix-accepted-lines : tie.Need-slice-reshare-prefix-accepted-lines
-slice-reshare-prefix-accepted-lines c =
-    let at-verdict = c .before in
+slice-reshare-prefix-accepted : tie.Need-slice-reshare-prefix-accepted
+slice-reshare-prefix-accepted c =
+    let at-verdict = c .before .before in
     parses-fit (at-verdict .before .before .before .parse-log .ensures) (at-verdict .verdict .given .1)
 
-slice-aggregate-accepted-lines : tie.Need-slice-aggregate-accepted-lines
-slice-aggregate-accepted-lines c = sym (length-take-le _ _ (slice-reshare-prefix-accepted-lines (c .before)))
+slice-aggregate-accepted : tie.Need-slice-aggregate-accepted
+slice-aggregate-accepted c = sym (length-take-le _ _ (slice-reshare-prefix-accepted (c .before)))
 
-accepted-lines-requires : tie.Need-accepted-lines-requires
-accepted-lines-requires c κs = search needs
+accepted-requires : tie.Need-accepted-requires
+accepted-requires c κs = search needs
 
 enum-known-refusal : tie.Need-enum-known-refusal
 enum-known-refusal c = search needs
 
-refused-line-requires : tie.Need-refused-line-requires
-refused-line-requires c κs = search needs
+refused-requires : tie.Need-refused-requires
+refused-requires c κs = search needs
 
 same-length : tie.Need-same-length
 same-length c = search needs
 
+same-length-2 : tie.Need-same-length-2
+same-length-2 c = search needs
+
 returns : tie.Need-returns
 returns c = search needs
 
-same-length-2 : tie.Need-same-length-2
-same-length-2 c = search needs
+same-length-3 : tie.Need-same-length-3
+same-length-3 c = search needs
+
+same-length-4 : tie.Need-same-length-4
+same-length-4 c = search needs
 
 returns-2 : tie.Need-returns-2
 returns-2 c = search needs
@@ -47,12 +53,14 @@ log-lines-spec =
     (tie.spec
     parse-log-requires
     enum-known-verdict
-    slice-reshare-prefix-accepted-lines
-    slice-aggregate-accepted-lines
-    accepted-lines-requires
+    slice-reshare-prefix-accepted
+    slice-aggregate-accepted
+    accepted-requires
     enum-known-refusal
-    refused-line-requires
+    refused-requires
     same-length
-    returns
     same-length-2
+    returns
+    same-length-3
+    same-length-4
     returns-2)
