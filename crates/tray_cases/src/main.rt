@@ -3,33 +3,29 @@
 // First comes the area: its length in four bytes, and its bytes, at most 65,536. Then come calls, each a byte and what follows it:
 // 0 puts (format and mode of one byte each, start and length of eight), 1 takes a turn (how much of the area and how much of the literal buffer
 // is lent, of four bytes each), 2 withdraws (a ticket of eight), 3 changes a byte of the area (an offset of four, and the byte).
-ghost use mathlib.Core.Path.{_≡_};
-ghost use mathlib.Core.Bool.{Bool};
-ghost use Prim.Native.Nat.{ℕ, _≤_};
-ghost use lib.ListN.{length};
-ghost use Rattle.formula.proofs.Runs.{CountFits};
-ghost use Rattle.clause.specs.declared.Next as clause;
-ghost use Rattle.service.specs.declared.Said as service;
-ghost use Rattle.service.specs.declared.Said.the-variants as saying;
-ghost use Rattle.tray.specs.declared.TurnAnswer.the-variants.{Told};
-use clause::Next;
-use console::clause_words;
-use console::number;
-use console::opening_words;
-use console::refused_words;
-use console::word;
+// Where a read fails, `unreadable` is the last line.
+ghost use Prim.Native.Nat.{_≤_};
+use console::Taken;
+use console::print;
+use console::stop;
+use console::take;
 use dimacs::Format;
 use dimacs::LARGEST;
-use libc::STDIN_FILENO;
-use service::Said;
+use lines::number;
+use lines::upto;
+use lines::word;
 use tray::Front;
 use tray::PutAnswer;
 use tray::Tray;
 use tray::TurnAnswer;
 use tray::WithdrawAnswer;
+use tray_lines::said_words;
 
 // The most bytes that a call has after its kind.
 const LONGEST: usize = 18;
+
+// More bytes than a line has, with 1,024 literals of at most eleven bytes and a space.
+const PAGE: usize = 16384;
 
 // A text to be put.
 struct Put {
@@ -73,7 +69,13 @@ fn change_of(frame: &[u8]) -> Call {
 
 // Where the next call begins after one of no kind is not known.
 fn unknown() -> Call {
-    word(b"unknown\n");
+    print(b"unknown\n");
+    Call::Nothing
+}
+
+// After what did not come whole no call is made.
+fn stopped(taken: Taken) -> Call {
+    stop(taken);
     Call::Nothing
 }
 
@@ -105,25 +107,28 @@ fn call_of(kind: u8, frame: &[u8; LONGEST]) -> Call {
 fn call_of_kind(kind: u8) -> Call {
     let mut frame = [0u8; LONGEST];
     let n = size(kind);
-    if io::read_full(STDIN_FILENO, &mut frame[..n]) < n {
-        word(b"cut\n");
-        return Call::Nothing;
+    let taken = take(&mut frame[..n]);
+    if let Taken::Whole = taken {
+        return call_of(kind, &frame);
     }
-    call_of(kind, &frame)
+    stopped(taken)
 }
 
+// The next call, or none at the input's end.
 fn next_call() -> Call {
     let mut kind = [0u8; 1];
-    if io::read_full(STDIN_FILENO, &mut kind) == 0 {
-        return Call::Nothing;
+    let taken = take(&mut kind);
+    match taken {
+        Taken::Whole => call_of_kind(frame::u8_at(&kind, 0)),
+        Taken::Part(_) => Call::Nothing,
+        Taken::Failed => stopped(taken),
     }
-    call_of_kind(frame::u8_at(&kind, 0))
 }
 
 // The number of a call's own refusal.
-fn call_refused(n: u8) {
-    word(b" refused");
-    number(n as u64);
+fn call_refused(page: &mut [u8], at: usize, n: u8) -> usize {
+    let past = word(page, at, b" refused");
+    number(page, past, n as u64)
 }
 
 // The format of the job at the front. Where none is, the turn is refused and any format does.
@@ -137,89 +142,84 @@ fn front_format(tray: Tray) -> Format {
     }
 }
 
-// An answer of the reader. A clause has no more literals than are lent.
-fn next_words(next: Next, format: Format, lits: &[i32])
-    requires { ⌜ CountFits (length (now lits)) next ⌝ }
-{
-    match next {
-        Next::Clause { extra, count } => clause_words(format, extra, &lits[..count]),
-        Next::Ended => word(b"end"),
-        Next::Refused { refusal, count } => refused_words(refusal, count, b"", b""),
-    }
-}
-
-fn said_words(said: Said, format: Format, lits: &[i32])
-    requires { ⌜ ((next : clause.Next) → said ≡ saying.Next next → CountFits (length (now lits)) next) ⌝ }
-{
-    match said {
-        Said::Opening(opening) => opening_words(opening, format, b"", b""),
-        Said::Next(next) => next_words(next, format, lits),
-    }
-}
-
-fn told_line(answer: TurnAnswer, format: Format, lits: &[i32])
-    requires { ⌜ ((ticket : ℕ) (said : service.Said) (last : Bool) (next : clause.Next) → answer ≡ Told ticket said last → said ≡ saying.Next next → CountFits (length (now lits)) next) ⌝ }
-{
-    word(b"turn");
+// What a turn tells a ticket, or why there was none.
+fn told_words(
+    page: &mut [u8],
+    at: usize,
+    answer: TurnAnswer,
+    format: Format,
+    lits: &[i32],
+) -> usize {
     match answer {
-        TurnAnswer::Refused(n) => call_refused(n),
+        TurnAnswer::Refused(n) => call_refused(page, at, n),
         TurnAnswer::Told {
             ticket,
             said,
             last: _,
         } => {
-            number(ticket);
-            word(b" ");
-            said_words(said, format, lits);
+            let past_ticket = number(page, at, ticket);
+            let past = word(page, past_ticket, b" ");
+            said_words(page, past, said, format, lits, b"", b"")
         }
     }
-    word(b"\n");
 }
 
-fn turn_line(tray: Tray, area: &[u8], lits: &mut [i32]) -> Tray {
+fn turn_line(page: &mut [u8], tray: Tray, area: &[u8], lits: &mut [i32]) -> Tray {
     let format = front_format(tray);
     let done = tray::turn(tray, area, lits);
     let answer = done.answer;
-    told_line(answer, format, lits);
+    let at = word(page, 0, b"turn");
+    let past_words = told_words(page, at, answer, format, lits);
+    let past = word(page, past_words, b"\n");
+    print(upto(page, past));
     done.tray
 }
 
 // A turn with no more of the area and of the buffer than is to be lent.
-fn lent_turn(tray: Tray, lent: usize, room: usize, area: &[u8], lits: &mut [i32]) -> Tray {
+fn lent_turn(
+    page: &mut [u8],
+    tray: Tray,
+    lent: usize,
+    room: usize,
+    area: &[u8],
+    lits: &mut [i32],
+) -> Tray {
     let most = frame::smaller(lent, area.len());
     let count = frame::smaller(room, lits.len());
-    turn_line(tray, &area[..most], &mut lits[..count])
+    turn_line(page, tray, &area[..most], &mut lits[..count])
 }
 
-fn put_words(answer: PutAnswer) {
-    word(b"put");
+fn put_words(page: &mut [u8], at: usize, answer: PutAnswer) -> usize {
     match answer {
-        PutAnswer::Refused(n) => call_refused(n),
-        PutAnswer::Ticket(ticket) => number(ticket),
+        PutAnswer::Refused(n) => call_refused(page, at, n),
+        PutAnswer::Ticket(ticket) => number(page, at, ticket),
     }
-    word(b"\n");
 }
 
-fn put_line(tray: Tray, put: Put, area: &[u8]) -> Tray {
+fn put_line(page: &mut [u8], tray: Tray, put: Put, area: &[u8]) -> Tray {
     let done = tray::put(tray, put.format, put.mode, put.start, put.length, area);
     let answer = done.answer;
-    put_words(answer);
+    let at = word(page, 0, b"put");
+    let past_words = put_words(page, at, answer);
+    let past = word(page, past_words, b"\n");
+    print(upto(page, past));
     done.tray
 }
 
-fn withdraw_words(answer: WithdrawAnswer) {
-    word(b"withdraw");
+fn withdraw_words(page: &mut [u8], at: usize, answer: WithdrawAnswer) -> usize {
     match answer {
-        WithdrawAnswer::Refused(n) => call_refused(n),
-        WithdrawAnswer::Withdrawn(ticket) => number(ticket),
+        WithdrawAnswer::Refused(n) => call_refused(page, at, n),
+        WithdrawAnswer::Withdrawn(ticket) => number(page, at, ticket),
     }
-    word(b"\n");
 }
 
-fn withdraw_line(tray: Tray, ticket: u64) -> Tray {
+fn withdraw_line(page: &mut [u8], tray: Tray, ticket: u64) -> Tray {
     let done = tray::withdraw(tray, ticket);
     let answer = done.answer;
-    withdraw_words(answer);
+    let at = word(page, 0, b"withdraw");
+    let past_words = withdraw_words(page, at, answer);
+    let past = word(page, past_words, b"\n");
+    print(upto(page, past));
     done.tray
 }
 
@@ -230,11 +230,11 @@ fn change(area: &mut [u8], at: usize, byte: u8) {
     }
 }
 
-fn made(tray: Tray, call: Call, area: &mut [u8], lits: &mut [i32]) -> Tray {
+fn made(page: &mut [u8], tray: Tray, call: Call, area: &mut [u8], lits: &mut [i32]) -> Tray {
     match call {
-        Call::Put(put) => put_line(tray, put, area),
-        Call::Turn { lent, room } => lent_turn(tray, lent, room, area, lits),
-        Call::Withdraw(ticket) => withdraw_line(tray, ticket),
+        Call::Put(put) => put_line(page, tray, put, area),
+        Call::Turn { lent, room } => lent_turn(page, tray, lent, room, area, lits),
+        Call::Withdraw(ticket) => withdraw_line(page, tray, ticket),
         Call::Change { at, byte } => {
             change(area, at, byte);
             tray
@@ -243,7 +243,7 @@ fn made(tray: Tray, call: Call, area: &mut [u8], lits: &mut [i32]) -> Tray {
     }
 }
 
-fn calls(area: &mut [u8], lits: &mut [i32]) {
+fn calls(page: &mut [u8], area: &mut [u8], lits: &mut [i32]) {
     let mut tray = tray::empty();
     let mut count: u64 = 0;
     while count < LARGEST {
@@ -251,33 +251,38 @@ fn calls(area: &mut [u8], lits: &mut [i32]) {
         if let Call::Nothing = call {
             return;
         }
-        tray = made(tray, call, area, lits);
+        tray = made(page, tray, call, area, lits);
         count += 1;
     }
 }
 
 // The area's bytes, and the calls.
-fn area_calls(area: &mut [u8], lits: &mut [i32]) {
-    if io::read_full(STDIN_FILENO, area) < area.len() {
-        return word(b"cut\n");
+fn area_calls(page: &mut [u8], area: &mut [u8], lits: &mut [i32]) {
+    let taken = take(area);
+    if let Taken::Whole = taken {
+        return calls(page, area, lits);
     }
-    calls(area, lits)
+    stop(taken);
 }
 
 // The same with an area of this length, if there is so much of it.
-fn sized_calls(length: usize, area: &mut [u8], lits: &mut [i32]) {
+fn sized_calls(length: usize, page: &mut [u8], area: &mut [u8], lits: &mut [i32]) {
     if area.len() < length {
-        return word(b"too long\n");
+        print(b"too long\n");
+        return;
     }
-    area_calls(&mut area[..length], lits)
+    area_calls(page, &mut area[..length], lits)
 }
 
 fn main() {
     let mut area = io::large_buffer();
     let mut lits = [0i32; 4096];
+    let mut page = [0u8; PAGE];
     let mut size = [0u8; 4];
-    if io::read_full(STDIN_FILENO, &mut size) < 4 {
-        return word(b"cut\n");
+    let taken = take(&mut size);
+    if let Taken::Whole = taken {
+        let length = frame::u32_at(&size, 0) as usize;
+        return sized_calls(length, &mut page, &mut area, &mut lits);
     }
-    sized_calls(frame::u32_at(&size, 0) as usize, &mut area, &mut lits);
+    stop(taken);
 }

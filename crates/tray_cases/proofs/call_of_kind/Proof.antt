@@ -11,23 +11,23 @@ size-requires c κs = search needs
 array-borrow-prefix-frame : tie.Need-array-borrow-prefix-frame
 array-borrow-prefix-frame c = search needs
 
-slice-aggregate-read-full : tie.Need-slice-aggregate-read-full
-slice-aggregate-read-full c = sym (length-take-le _ _ (c .before .size .ensures))
+slice-aggregate-take : tie.Need-slice-aggregate-take
+slice-aggregate-take c = sym (length-take-le _ _ (c .before .size .ensures))
 
-read-full-requires : tie.Need-read-full-requires
-read-full-requires c κs = search needs
+take-requires : tie.Need-take-requires
+take-requires c κs = search needs
 
-slice-aggregate-word : tie.Need-slice-aggregate-word
-slice-aggregate-word c = search needs
+enum-told : tie.Need-enum-told
+enum-told c = search needs
 
-word-requires : tie.Need-word-requires
-word-requires c κs = search needs
+call-of-requires : tie.Need-call-of-requires
+call-of-requires c κs = search needs
 
 returns : tie.Need-returns
 returns c = search needs
 
-call-of-requires : tie.Need-call-of-requires
-call-of-requires c κs = search needs
+stopped-requires : tie.Need-stopped-requires
+stopped-requires c κs = search needs
 
 returns-2 : tie.Need-returns-2
 returns-2 c = search needs
@@ -38,10 +38,10 @@ call-of-kind-spec =
     (tie.spec
     size-requires
     array-borrow-prefix-frame
-    slice-aggregate-read-full
-    read-full-requires
-    slice-aggregate-word
-    word-requires
-    returns
+    slice-aggregate-take
+    take-requires
+    enum-told
     call-of-requires
+    returns
+    stopped-requires
     returns-2)

@@ -7,10 +7,10 @@ use Rattle.tray_cases.proofs.calls.Statement.{statement}
 use Rattle.tray_cases.proofs.calls.Tie as tie
 
 abbrev Inv-loop : tie.InvT-loop
-Inv-loop area₀ lits₀ tray₀ count₀ area lits tray count = (count ≤ 18446744073709551615) × (length area ≡ length area₀) × (length lits ≡ length lits₀)
+Inv-loop page₀ area₀ lits₀ tray₀ count₀ page area lits tray count = (count ≤ 18446744073709551615) × (length page ≡ length page₀) × (length area ≡ length area₀) × (length lits ≡ length lits₀)
 
 abbrev μ-loop : tie.MeasureT-loop
-μ-loop area₀ lits₀ tray₀ count₀ area lits tray count = 18446744073709551615 - count
+μ-loop page₀ area₀ lits₀ tray₀ count₀ page area lits tray count = 18446744073709551615 - count
 
 empty-requires : tie.Need-empty-requires Inv-loop μ-loop
 empty-requires c κs = search needs
@@ -30,6 +30,9 @@ same-length c = search needs
 same-length-2 : tie.Need-same-length-2 Inv-loop μ-loop
 same-length-2 c = search needs
 
+same-length-3 : tie.Need-same-length-3 Inv-loop μ-loop
+same-length-3 c = search needs
+
 returns : tie.Need-returns Inv-loop μ-loop
 returns c = search needs
 
@@ -45,11 +48,14 @@ loop-less c = search needs
 loop-again : tie.Need-loop-again Inv-loop μ-loop
 loop-again c = search needs
 
-same-length-3 : tie.Need-same-length-3 Inv-loop μ-loop
-same-length-3 c = search needs
-
 same-length-4 : tie.Need-same-length-4 Inv-loop μ-loop
 same-length-4 c = search needs
+
+same-length-5 : tie.Need-same-length-5 Inv-loop μ-loop
+same-length-5 c = search needs
+
+same-length-6 : tie.Need-same-length-6 Inv-loop μ-loop
+same-length-6 c = search needs
 
 returns-2 : tie.Need-returns-2 Inv-loop μ-loop
 returns-2 c = search needs
@@ -66,11 +72,13 @@ calls-spec =
     enum-told
     same-length
     same-length-2
+    same-length-3
     returns
     made-requires
     add-count
     loop-less
     loop-again
-    same-length-3
     same-length-4
+    same-length-5
+    same-length-6
     returns-2)

@@ -14,8 +14,8 @@ smaller-requires-2 c κs = search needs
 
 slice-aggregate-turn-line : tie.Need-slice-aggregate-turn-line
 slice-aggregate-turn-line c =
-    let at-lent = c .before .before in
-    let start = at-lent .before .before in
+    let at-lent = c .before .before .before in
+    let start = at-lent .before .before .before in
     sym (length-take-le _ (start .args .area .now) (omega arith))
 
 slice-relend-prefix-turn-line : tie.Need-slice-relend-prefix-turn-line
@@ -29,6 +29,9 @@ turn-line-requires c κs = search needs
 
 same-length : tie.Need-same-length
 same-length c = search needs
+
+same-length-2 : tie.Need-same-length-2
+same-length-2 c = search needs
 
 returns : tie.Need-returns
 returns c = search needs
@@ -44,4 +47,5 @@ lent-turn-spec =
     slice-aggregate-turn-line-2
     turn-line-requires
     same-length
+    same-length-2
     returns)

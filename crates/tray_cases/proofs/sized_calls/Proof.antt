@@ -5,11 +5,11 @@ use borrow.Author.Needs.{needs}
 use Rattle.tray_cases.proofs.sized_calls.Statement.{statement}
 use Rattle.tray_cases.proofs.sized_calls.Tie as tie
 
-slice-aggregate-word : tie.Need-slice-aggregate-word
-slice-aggregate-word c = search needs
+slice-aggregate-print : tie.Need-slice-aggregate-print
+slice-aggregate-print c = search needs
 
-word-requires : tie.Need-word-requires
-word-requires c κs = search needs
+print-requires : tie.Need-print-requires
+print-requires c κs = search needs
 
 returns : tie.Need-returns
 returns c = search needs
@@ -29,6 +29,9 @@ same-length c = search needs
 same-length-2 : tie.Need-same-length-2
 same-length-2 c = search needs
 
+same-length-3 : tie.Need-same-length-3
+same-length-3 c = search needs
+
 returns-2 : tie.Need-returns-2
 returns-2 c = search needs
 
@@ -36,12 +39,13 @@ pub sized-calls-spec : {M : Type 1} → statement M
 sized-calls-spec =
     tie.close
     (tie.spec
-    slice-aggregate-word
-    word-requires
+    slice-aggregate-print
+    print-requires
     returns
     slice-relend-prefix-area-calls
     slice-aggregate-area-calls
     area-calls-requires
     same-length
     same-length-2
+    same-length-3
     returns-2)
