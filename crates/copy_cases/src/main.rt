@@ -6,13 +6,9 @@ ghost use Prim.Native.Nat.{_+_, _≤_};
 ghost use lib.ListN.{length};
 ghost use Rattle.writer.specs.Answers.{lineLength};
 ghost use Rattle.formula.proofs.Runs.{CountFits};
+ghost use Rattle.lines.specs.Pages.{Lays};
+ghost use Rattle.copy_cases.specs.Titles.{formatName, titleLine};
 use clause::Next;
-use console::clause_line;
-use console::end_line;
-use console::header_line;
-use console::number;
-use console::refused_line;
-use console::word;
 use dimacs::Format;
 use dimacs::Header;
 use dimacs::LARGEST;
@@ -23,6 +19,12 @@ use dimacs::Refusal;
 use formula::Cursor;
 use writer::Written;
 
+// The longest text.
+const TEXT: usize = 65536;
+
+// The longest line: a clause with a group of 20 digits and as many literals as there is room for, each a space, a sign and ten digits.
+const PAGE: usize = 31 + 12 * ROOM;
+
 // A formula but for its clauses. Those are two lists: the weights or groups, all 0 where the format has none, and the literals, a 0 after each clause.
 struct Formula {
     format: Format,
@@ -32,10 +34,9 @@ struct Formula {
 
 // Says so if what was read is not what was written.
 fn compared(same: bool) {
-    if same {
-        return;
+    if !same {
+        console::print(b"differs\n");
     }
-    word(b"differs\n");
 }
 
 // The place past a line that was written at a place, if one was.
@@ -46,7 +47,7 @@ fn past_line(at: usize, answer: Written) -> usize
     match answer {
         Written::Line(n) => at + n,
         Written::Refused(_) => {
-            word(b"unwritten\n");
+            console::print(b"unwritten\n");
             at
         }
     }
@@ -102,9 +103,7 @@ fn past(given: &[i32], end: usize) -> usize
 }
 
 // The whole formula written, and its length.
-fn written(text: &mut [u8], f: Formula, extras: &[u64], given: &[i32]) -> usize
-    ensures { λ r. ⌜ r ≤ length (now (text .entry)) ⌝ }
-{
+fn written(text: &mut [u8], f: Formula, extras: &[u64], given: &[i32]) -> usize {
     let format = f.format;
     let mut at = put_header(text, f);
     let mut from: usize = 0;
@@ -128,10 +127,11 @@ fn same(a: &[i32], b: &[i32]) -> bool {
     true
 }
 
-fn header_read(f: Formula, read: Header) {
+fn header_read(page: &mut [u8], f: Formula, read: Header) {
     let format = f.format;
     let h = f.header;
-    header_line(read, format);
+    let past = lines::header_line(page, 0, read, format);
+    console::print(lines::upto(page, past));
     compared(
         f.headed
             && read.variables == h.variables
@@ -140,11 +140,11 @@ fn header_read(f: Formula, read: Header) {
     );
 }
 
-fn opening_read(f: Formula, read: Opening) {
+fn opening_read(page: &mut [u8], f: Formula, read: Opening) {
     match read {
-        Opening::Header(header, _) => header_read(f, header),
+        Opening::Header(header, _) => header_read(page, f, header),
         Opening::NoHeader(_) => {
-            word(b"header none\n");
+            console::print(b"header none\n");
             compared(!f.headed);
         }
         Opening::Refused(_) => {}
@@ -152,28 +152,46 @@ fn opening_read(f: Formula, read: Opening) {
 }
 
 // A clause that was read. It must be due, and its literals these.
-fn clause_read(format: Format, extra: u64, lits: &[i32], due: bool, given: &[i32]) {
-    clause_line(format, extra, lits);
+fn clause_read(
+    page: &mut [u8],
+    format: Format,
+    extra: u64,
+    lits: &[i32],
+    due: bool,
+    given: &[i32],
+) {
+    let past = lines::clause_line(page, 0, format, extra, lits);
+    console::print(lines::upto(page, past));
     compared(due && same(lits, given));
 }
 
 fn end_read(due: bool) {
-    end_line();
+    console::print(b"end\n");
     compared(due);
 }
 
 // A refusal, which is never due.
-fn refused_read(r: Refusal) {
-    refused_line(r);
+fn refused_read(page: &mut [u8], r: Refusal) {
+    let past = lines::refused_line(page, 0, r);
+    console::print(lines::upto(page, past));
     compared(false);
 }
 
 // An answer of the reader. It must be this clause, or the end where no clause is due.
-fn answer_read(answer: Next, format: Format, lits: &[i32], due: bool, extra: u64, given: &[i32])
+fn answer_read(
+    page: &mut [u8],
+    answer: Next,
+    format: Format,
+    lits: &[i32],
+    due: bool,
+    extra: u64,
+    given: &[i32],
+)
     requires { ⌜ CountFits (length (now lits)) answer ⌝ }
 {
     match answer {
         Next::Clause { extra: read, count } => clause_read(
+            page,
             format,
             read,
             &lits[..count],
@@ -181,12 +199,13 @@ fn answer_read(answer: Next, format: Format, lits: &[i32], due: bool, extra: u64
             given,
         ),
         Next::Ended => end_read(!due),
-        Next::Refused { refusal, count: _ } => refused_read(refusal),
+        Next::Refused { refusal, count: _ } => refused_read(page, refusal),
     }
 }
 
 // The next answer of the reader, and the cursor past it.
 fn next_read(
+    page: &mut [u8],
     text: &[u8],
     cursor: Cursor,
     lits: &mut [i32],
@@ -197,56 +216,73 @@ fn next_read(
     let format = cursor.format;
     let step = cursor.next_clause(text, lits);
     let answer = step.answer;
-    answer_read(answer, format, lits, due, extra, given);
+    answer_read(page, answer, format, lits, due, extra, given);
     step.cursor
 }
 
-fn clauses_read(text: &[u8], first: Cursor, lits: &mut [i32], extras: &[u64], given: &[i32]) {
+fn clauses_read(
+    page: &mut [u8],
+    text: &[u8],
+    first: Cursor,
+    lits: &mut [i32],
+    extras: &[u64],
+    given: &[i32],
+) {
     let mut cursor = first;
     let mut from: usize = 0;
     for k in 0..extras.len() {
         let end = zero(given, from);
-        cursor = next_read(text, cursor, lits, true, extras[k], &given[from..end]);
+        cursor = next_read(page, text, cursor, lits, true, extras[k], &given[from..end]);
         from = past(given, end);
     }
-    next_read(text, cursor, lits, false, 0, given);
+    next_read(page, text, cursor, lits, false, 0, given);
 }
 
 // The text read in a mode, with the room of a caller that lends no buffer.
-fn read_back(text: &[u8], f: Formula, mode: Mode, extras: &[u64], given: &[i32]) {
+fn read_back(page: &mut [u8], text: &[u8], f: Formula, mode: Mode, extras: &[u64], given: &[i32]) {
     let format = f.format;
     let opened = formula::open_as(text, format, mode);
     let opening = opened.opening;
     let cursor = opened.cursor;
-    opening_read(f, opening);
+    opening_read(page, f, opening);
     let mut lits = [0i32; ROOM];
-    clauses_read(text, cursor, &mut lits, extras, given);
+    clauses_read(page, text, cursor, &mut lits, extras, given);
 }
 
-fn name(format: Format) {
+fn name(page: &mut [u8], at: usize, format: Format) -> usize
+    ensures { λ r. ⌜ Lays at (formatName format) (now (page .entry)) (now (page .exit)) r ⌝ }
+{
     match format {
-        Format::Plain => word(b"plain"),
-        Format::Weighted => word(b"weighted"),
-        Format::Grouped => word(b"grouped"),
+        Format::Plain => lines::word(page, at, b"plain"),
+        Format::Weighted => lines::word(page, at, b"weighted"),
+        Format::Grouped => lines::word(page, at, b"grouped"),
     }
 }
 
-fn both(text: &[u8], f: Formula, extras: &[u64], given: &[i32]) {
-    let format = f.format;
-    name(format);
-    number(text.len() as u64);
-    word(b" bytes\n");
-    word(text);
-    word(b"strict\n");
-    read_back(text, f, Mode::Strict, extras, given);
-    word(b"lenient\n");
-    read_back(text, f, Mode::Lenient, extras, given);
+// The format of a text and how many bytes it has.
+fn title_line(page: &mut [u8], at: usize, format: Format, bytes: usize) -> usize
+    ensures { λ r. ⌜ Lays at (titleLine format bytes) (now (page .entry)) (now (page .exit)) r ⌝ }
+{
+    let past_name = name(page, at, format);
+    let past_number = lines::number(page, past_name, bytes as u64);
+    lines::word(page, past_number, b" bytes\n")
 }
 
-fn copied(f: Formula, extras: &[u64], given: &[i32]) {
-    let mut text = io::large_buffer();
+fn both(page: &mut [u8], text: &[u8], f: Formula, extras: &[u64], given: &[i32]) {
+    let format = f.format;
+    let past = title_line(page, 0, format, text.len());
+    console::print(lines::upto(page, past));
+    console::print(text);
+    console::print(b"strict\n");
+    read_back(page, text, f, Mode::Strict, extras, given);
+    console::print(b"lenient\n");
+    read_back(page, text, f, Mode::Lenient, extras, given);
+}
+
+fn copied(page: &mut [u8; PAGE], f: Formula, extras: &[u64], given: &[i32]) {
+    let mut text = [0u8; TEXT];
     let n = written(&mut text, f, extras, given);
-    both(&text[..n], f, extras, given);
+    both(page, lines::upto(&text, n), f, extras, given);
 }
 
 fn bare(format: Format) -> Formula {
@@ -275,51 +311,69 @@ fn headed(format: Format, variables: u64, clauses: u64, third: u64) -> Formula {
     }
 }
 
-fn plain() {
-    copied(headed(Format::Plain, 3, 2, 0), &[0, 0], &[1, -3, 0, -2, 0]);
+fn plain(page: &mut [u8; PAGE]) {
     copied(
+        page,
+        headed(Format::Plain, 3, 2, 0),
+        &[0, 0],
+        &[1, -3, 0, -2, 0],
+    );
+    copied(
+        page,
         headed(Format::Plain, 2147483647, 0, 0),
         &[0, 0],
         &[2147483647, -2147483647, 0, 0],
     );
-    copied(headed(Format::Plain, 0, 1, 0), &[0], &[9, -10, 99, -100, 0]);
     copied(
+        page,
+        headed(Format::Plain, 0, 1, 0),
+        &[0],
+        &[9, -10, 99, -100, 0],
+    );
+    copied(
+        page,
         bare(Format::Plain),
         &[0, 0],
         &[0, -2147483647, 2147483647, 0],
     );
 }
 
-fn weighted() {
+fn weighted(page: &mut [u8; PAGE]) {
     copied(
+        page,
         headed(Format::Weighted, 100, 5, LARGEST),
         &[0, 9, 10, 99, 100],
         &[1, 0, -9, 0, 10, -99, 0, 100, 0, 0],
     );
     copied(
+        page,
         headed(Format::Weighted, 0, 0, 0),
         &[2147483647],
         &[2147483647, 0],
     );
     copied(
+        page,
         bare(Format::Weighted),
         &[9223372036854775808, LARGEST, 0],
         &[-2147483647, 0, 0, 1, 0],
     );
 }
 
-fn grouped() {
+fn grouped(page: &mut [u8; PAGE]) {
     copied(
+        page,
         headed(Format::Grouped, 9, 3, 10),
         &[0, 9, 10],
         &[1, -9, 0, 0, 2, 0],
     );
     copied(
+        page,
         headed(Format::Grouped, 0, 0, LARGEST),
         &[LARGEST, 9223372036854775808],
         &[-2147483647, 0, 0],
     );
     copied(
+        page,
         bare(Format::Grouped),
         &[LARGEST, 99, 100],
         &[0, 2147483647, 0, -1, 0],
@@ -327,31 +381,36 @@ fn grouped() {
 }
 
 // No line at all, and a header alone.
-fn empty(format: Format) {
+fn empty(page: &mut [u8; PAGE], format: Format) {
     let none = [0u64; 0];
     let given = [0i32; 0];
-    copied(bare(format), &none, &given);
-    copied(headed(format, 0, 0, 0), &none, &given);
+    copied(page, bare(format), &none, &given);
+    copied(page, headed(format, 0, 0, 0), &none, &given);
 }
 
 // A clause that takes all the room.
-fn long(f: Formula, extra: u64) {
+fn long(page: &mut [u8; PAGE], f: Formula, extra: u64) {
     let mut given = [0i32; ROOM + 1];
     for i in 0..ROOM {
         given[i] = (i + 1) as i32;
     }
     given[ROOM - 1] = -1024;
-    copied(f, &[extra], &given);
+    copied(page, f, &[extra], &given);
+}
+
+fn copies(page: &mut [u8; PAGE]) {
+    plain(page);
+    weighted(page);
+    grouped(page);
+    empty(page, Format::Plain);
+    empty(page, Format::Weighted);
+    empty(page, Format::Grouped);
+    long(page, headed(Format::Plain, 1024, 1, 0), 0);
+    long(page, headed(Format::Weighted, 1024, 1, LARGEST), LARGEST);
+    long(page, headed(Format::Grouped, 1024, 1, LARGEST), LARGEST);
 }
 
 fn main() {
-    plain();
-    weighted();
-    grouped();
-    empty(Format::Plain);
-    empty(Format::Weighted);
-    empty(Format::Grouped);
-    long(headed(Format::Plain, 1024, 1, 0), 0);
-    long(headed(Format::Weighted, 1024, 1, LARGEST), LARGEST);
-    long(headed(Format::Grouped, 1024, 1, LARGEST), LARGEST);
+    let mut page = [0u8; PAGE];
+    copies(&mut page);
 }

@@ -12,8 +12,8 @@ enum-known-answer c = search needs
 
 slice-aggregate-clause-read : tie.Need-slice-aggregate-clause-read
 slice-aggregate-clause-read c =
-    let at-answer = c .before .before in
-    let start = at-answer .before .before in
+    let at-answer = c .before .before .before in
+    let start = at-answer .before .before .before in
     sym (length-take-le _ (start .args .lits .now) (subst (CountFits (length (start .args .lits .now))) (at-answer .answer .given .1) (start .pre)))
 
 clause-read-requires : tie.Need-clause-read-requires
@@ -31,11 +31,17 @@ enum-known-answer-2 c = search needs
 refused-read-requires : tie.Need-refused-read-requires
 refused-read-requires c κs = search needs
 
+same-length : tie.Need-same-length
+same-length c = search needs
+
 returns : tie.Need-returns
 returns c = search needs
 
 returns-2 : tie.Need-returns-2
 returns-2 c = search needs
+
+same-length-2 : tie.Need-same-length-2
+same-length-2 c = search needs
 
 returns-3 : tie.Need-returns-3
 returns-3 c = search needs
@@ -51,6 +57,8 @@ answer-read-spec =
     end-read-requires
     enum-known-answer-2
     refused-read-requires
+    same-length
     returns
     returns-2
+    same-length-2
     returns-3)

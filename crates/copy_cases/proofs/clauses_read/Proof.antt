@@ -1,16 +1,17 @@
 -- `copy_cases::clauses_read` ends, since the clauses left fall, and keeps within the literals. Assumes nothing.
 use Prim.Native.Nat.{_-_, _≤_}
 use mathlib.Core.Path.{_≡_}
+use native.Mathlib.Omega.{arith}
 use lib.ListN.{length}
 use borrow.Author.Needs.{needs}
 use Rattle.copy_cases.proofs.clauses_read.Statement.{statement}
 use Rattle.copy_cases.proofs.clauses_read.Tie as tie
 
 abbrev Inv-loop : tie.InvT-loop
-Inv-loop text lits₀ extras given cursor₀ from₀ k₀ k-end lits cursor from k = (length lits ≡ length lits₀) × (from ≤ length given)
+Inv-loop page₀ text lits₀ extras given cursor₀ from₀ k₀ k-end page lits cursor from k = (length extras ≤ 18446744073709551615) × (length page ≡ length page₀) × (length lits ≡ length lits₀) × (from ≤ length given)
 
 abbrev μ-loop : tie.MeasureT-loop
-μ-loop text lits₀ extras given cursor₀ from₀ k₀ k-end lits cursor from k = length extras - k
+μ-loop page₀ text lits₀ extras given cursor₀ from₀ k₀ k-end page lits cursor from k = length extras - k
 
 loop-holds : tie.Need-loop-holds Inv-loop μ-loop
 loop-holds c = search needs
@@ -43,7 +44,11 @@ past-requires : tie.Need-past-requires Inv-loop μ-loop
 past-requires c κs = search needs
 
 add-k : tie.Need-add-k Inv-loop μ-loop
-add-k c = search needs
+add-k c =
+    let at-next = c .before .before .before .before in
+    let at-zero = at-next .before .before .before .before .before in
+    let at-turn = at-zero .before in
+    omega (arith, at-turn .loop-test .taken, at-turn .before .loop .inv .0)
 
 loop-less : tie.Need-loop-less Inv-loop μ-loop
 loop-less c = search needs
@@ -56,6 +61,9 @@ next-read-requires-2 c κs = search needs
 
 same-length : tie.Need-same-length Inv-loop μ-loop
 same-length c = search needs
+
+same-length-2 : tie.Need-same-length-2 Inv-loop μ-loop
+same-length-2 c = search needs
 
 returns : tie.Need-returns Inv-loop μ-loop
 returns c = search needs
@@ -81,4 +89,5 @@ clauses-read-spec =
     loop-again
     next-read-requires-2
     same-length
+    same-length-2
     returns)

@@ -7,10 +7,10 @@ use Rattle.copy_cases.proofs.long.Statement.{statement}
 use Rattle.copy_cases.proofs.long.Tie as tie
 
 abbrev Inv-loop : tie.InvT-loop
-Inv-loop f extra given₀ i₀ given i = (i ≤ 1024) × (1025 ≡ length given)
+Inv-loop page f extra given₀ i₀ given i = (i ≤ 1024) × (1025 ≡ length given)
 
 abbrev μ-loop : tie.MeasureT-loop
-μ-loop f extra given₀ i₀ given i = 1024 - i
+μ-loop page f extra given₀ i₀ given i = 1024 - i
 
 loop-holds : tie.Need-loop-holds Inv-loop μ-loop
 loop-holds c = search needs

@@ -15,11 +15,11 @@ add-result c = search (needs, ap lineLength (c .before .answer .given .1))
 enum-told : tie.Need-enum-told
 enum-told c = search needs
 
-slice-aggregate-word : tie.Need-slice-aggregate-word
-slice-aggregate-word c = search needs
+slice-aggregate-print : tie.Need-slice-aggregate-print
+slice-aggregate-print c = search needs
 
-word-requires : tie.Need-word-requires
-word-requires c κs = search needs
+print-requires : tie.Need-print-requires
+print-requires c κs = search needs
 
 returns : tie.Need-returns
 returns c = omega (arith, ap lineLength (c .before .answer .given .1))
@@ -34,7 +34,7 @@ past-line-spec =
     enum-known-answer
     add-result
     enum-told
-    slice-aggregate-word
-    word-requires
+    slice-aggregate-print
+    print-requires
     returns
     returns-2)

@@ -1,0 +1,2 @@
+-- The line before a text.
+pub mod Titles
