@@ -2,6 +2,8 @@
 //
 // A frame is format, mode, room and length, of one, one, four and four bytes, little-endian, and then so many
 // bytes of text. Each is answered by `case N` and what the reader of its format says of the text, line by line.
+ghost use lib.ListN.{length};
+ghost use Rattle.formula.proofs.Runs.{CountFits};
 use clause::Next;
 use console::Taken;
 use console::stop;
@@ -68,6 +70,27 @@ fn clauses(text: &[u8], from: Cursor, lits: &mut [i32], page: &mut [u8]) {
     }
 }
 
+// The first answer of a text, and whether it is a clause.
+fn first_line(page: &mut [u8], text: &[u8], format: Format, first: Next, lits: &[i32]) -> bool
+    requires { ⌜ CountFits (length (now lits)) first ⌝ }
+{
+    match first {
+        Next::Clause { extra, count } => {
+            let past = clause_line(page, 0, format, extra, &lits[..count]);
+            show(page, past);
+            true
+        }
+        Next::Ended => {
+            console::print(b"end\n");
+            false
+        }
+        Next::Refused { refusal, count } => {
+            refused(page, text, refusal, count);
+            false
+        }
+    }
+}
+
 // The line of a header, or of none; a refusal is told by the first clause.
 fn opening_line(page: &mut [u8], opening: Opening, format: Format) -> usize {
     match opening {
@@ -77,14 +100,25 @@ fn opening_line(page: &mut [u8], opening: Opening, format: Format) -> usize {
     }
 }
 
+// What follows the first clause from a cursor on.
+fn rest(text: &[u8], cursor: Cursor, lits: &mut [i32], page: &mut [u8]) {
+    let step = cursor.next_clause(text, lits);
+    clauses(text, step.cursor, lits, page);
+}
+
+// How a text opens and its first answer are told by a reader that holds it, the rest by a cursor.
 fn formula_lines(text: &[u8], format: u8, mode: u8, lits: &mut [i32], page: &mut [u8]) {
+    let first = reader::first_clause(text, format, mode, lits);
+    let opening = first.opening;
+    let answer = first.answer;
     let opened = formula::open(text, format, mode);
-    let opening = opened.opening;
     let cursor = opened.cursor;
     let named = cursor.format;
     let past = opening_line(page, opening, named);
     show(page, past);
-    clauses(text, cursor, lits, page);
+    if first_line(page, text, named, answer, lits) {
+        rest(text, cursor, lits, page);
+    }
 }
 
 fn verdict_line(page: &mut [u8], verdict: Verdict) -> usize {
