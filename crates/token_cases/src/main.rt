@@ -2,100 +2,174 @@
 //
 // A case is the text's length as one byte, the text, and then the place
 // and the limit as eight bytes each, little-endian. A line has their answers in the order below: a place as it is, a test as 0 or 1,
-// a number as `value@place`, `-` where there is none and `!` where it is too big.
+// a number as `value@place`, `-` where there is none and `!` where it is too big, and a space after each. A case that is cut off is `cut`, and an input
+// that cannot be read is `unreadable`; nothing follows them.
+ghost use mathlib.Core.Path.{_≡_};
 ghost use Prim.Native.Nat.{_≤_};
+ghost use Rattle.lines.specs.Pages.{Lays};
+ghost use Rattle.lines.specs.Printed.{printedNumber};
+ghost use Rattle.token_cases.specs.Answers.{bit, printedNext, printedEndOfLine, printedUint, printedInt, testAnswers, endAnswers, lineAnswers, wordAnswers, numberAnswers, answerLine};
+use console::Taken;
 use dimacs::EndOfLine;
 use dimacs::Int;
 use dimacs::Uint;
-use libc::STDIN_FILENO;
-use libc::STDOUT_FILENO;
 
-fn space() {
-    io::write_all(STDOUT_FILENO, b" ");
+// The longest text.
+const TEXT: usize = 255;
+
+// The longest line: two tests, thirteen places, two numbers and a literal with the places past them, a space after each, and the line end. A place and a number have at most 20 digits.
+const PAGE: usize = 395;
+
+fn bit(t: bool) -> u64
+    ensures { λ r. ⌜ r ≡ bit t ⌝ }
+{
+    if t { 1 } else { 0 }
 }
 
-fn mark(m: &[u8]) {
-    io::write_all(STDOUT_FILENO, m);
-    space();
+// A place after a space.
+fn place(page: &mut [u8], at: usize, n: usize) -> usize
+    ensures { λ r. ⌜ Lays at (printedNumber n) (now (page .entry)) (now (page .exit)) r ⌝ }
+{
+    lines::number(page, at, n as u64)
 }
 
-fn place(at: usize) {
-    io::print_decimal(STDOUT_FILENO, at as u64);
-    space();
+// The place past a number.
+fn next_place(page: &mut [u8], at: usize, n: usize) -> usize
+    ensures { λ r. ⌜ Lays at (printedNext n) (now (page .entry)) (now (page .exit)) r ⌝ }
+{
+    let past = lines::word(page, at, b"@");
+    lines::plain_number(page, past, n as u64)
 }
 
-fn test(t: bool) {
-    if t {
-        mark(b"1");
-    } else {
-        mark(b"0");
-    }
-}
-
-fn number(value: u64, next: usize) {
-    io::print_decimal(STDOUT_FILENO, value);
-    io::write_all(STDOUT_FILENO, b"@");
-    place(next);
-}
-
-fn end_of_line(e: EndOfLine) {
+fn end_of_line_words(page: &mut [u8], at: usize, e: EndOfLine) -> usize
+    ensures { λ r. ⌜ Lays at (printedEndOfLine e) (now (page .entry)) (now (page .exit)) r ⌝ }
+{
     match e {
-        EndOfLine::Missing => mark(b"-"),
-        EndOfLine::Past(at) => place(at),
+        EndOfLine::Missing => lines::word(page, at, b" -"),
+        EndOfLine::Past(next) => place(page, at, next),
     }
 }
 
-fn uint(u: Uint) {
+fn uint_words(page: &mut [u8], at: usize, u: Uint) -> usize
+    ensures { λ r. ⌜ Lays at (printedUint u) (now (page .entry)) (now (page .exit)) r ⌝ }
+{
     match u {
-        Uint::Missing => mark(b"-"),
-        Uint::TooBig => mark(b"!"),
-        Uint::Value(n, next) => number(n, next),
+        Uint::Missing => lines::word(page, at, b" -"),
+        Uint::TooBig => lines::word(page, at, b" !"),
+        Uint::Value(n, next) => {
+            let past = lines::number(page, at, n);
+            next_place(page, past, next)
+        }
     }
 }
 
-fn int(i: Int) {
+fn int_words(page: &mut [u8], at: usize, i: Int) -> usize
+    ensures { λ r. ⌜ Lays at (printedInt i) (now (page .entry)) (now (page .exit)) r ⌝ }
+{
     match i {
-        Int::Missing => mark(b"-"),
-        Int::TooBig => mark(b"!"),
-        Int::Zero(next) => number(0, next),
-        Int::Literal(v, next) => literal(v, next),
+        Int::Missing => lines::word(page, at, b" -"),
+        Int::TooBig => lines::word(page, at, b" !"),
+        Int::Zero(next) => {
+            let past = lines::number(page, at, 0);
+            next_place(page, past, next)
+        }
+        Int::Literal(v, next) => {
+            let past = lines::literals(page, at, &[v]);
+            next_place(page, past, next)
+        }
     }
 }
 
-fn literal(v: i32, next: usize) {
-    if v < 0 {
-        io::write_all(STDOUT_FILENO, b"-");
-    }
-    number(dimacs::magnitude(v), next);
+fn test_answers(page: &mut [u8], at: usize, text: &[u8], from: usize) -> usize
+    ensures { λ r. ⌜ Lays at (testAnswers (now (text .entry)) from) (now (page .entry)) (now (page .exit)) r ⌝ }
+{
+    let past = lines::plain_number(page, at, bit(token::eof(text, from)));
+    lines::number(page, past, bit(token::is_end_of_word(text, from)))
 }
 
-fn answers(text: &[u8], at: usize, limit: u64) {
-    test(token::eof(text, at));
-    test(token::is_end_of_word(text, at));
-    place(token::skip_whitespace(text, at));
-    place(token::interactive_skip_line(text, at));
-    place(token::interactive_newline(text, at));
-    end_of_line(token::interactive_end_of_line(text, at));
-    place(token::newline(text, at));
-    place(token::line_past(text, at));
-    place(token::interactive_strict_comment(text, at));
-    place(token::comments_and_newlines(text, at));
-    place(token::non_terminating_linebreaks(text, at));
-    place(token::fixed(text, at, b"c "));
-    place(token::fixed(text, at, b"SATISFIABLE"));
-    place(token::word(text, at, b"p"));
-    place(token::word(text, at, b"cnf"));
-    uint(numeral::uint(text, at, limit));
-    uint(numeral::braced_uint(text, at, limit));
-    int(numeral::int(text, at, (limit % 4294967296) as u32));
-    io::write_all(STDOUT_FILENO, b"\n");
+fn end_answers(page: &mut [u8], at: usize, text: &[u8], from: usize) -> usize
+    ensures { λ r. ⌜ Lays at (endAnswers (now (text .entry)) from) (now (page .entry)) (now (page .exit)) r ⌝ }
+{
+    let past_tests = test_answers(page, at, text, from);
+    let past_blanks = place(page, past_tests, token::skip_whitespace(text, from));
+    let past_line = place(page, past_blanks, token::interactive_skip_line(text, from));
+    let past_newline = place(page, past_line, token::interactive_newline(text, from));
+    end_of_line_words(
+        page,
+        past_newline,
+        token::interactive_end_of_line(text, from),
+    )
 }
 
-// The next eight bytes of the input.
-fn next_number() -> u64 {
-    let mut b = [0u8; 8];
-    io::read_full(STDIN_FILENO, &mut b);
-    frame::u64_at(&b, 0)
+fn line_answers(page: &mut [u8], at: usize, text: &[u8], from: usize) -> usize
+    ensures { λ r. ⌜ Lays at (lineAnswers (now (text .entry)) from) (now (page .entry)) (now (page .exit)) r ⌝ }
+{
+    let past_newline = place(page, at, token::newline(text, from));
+    let past_line = place(page, past_newline, token::line_past(text, from));
+    let past_comment = place(
+        page,
+        past_line,
+        token::interactive_strict_comment(text, from),
+    );
+    let past_lines = place(page, past_comment, token::comments_and_newlines(text, from));
+    place(
+        page,
+        past_lines,
+        token::non_terminating_linebreaks(text, from),
+    )
+}
+
+fn word_answers(page: &mut [u8], at: usize, text: &[u8], from: usize) -> usize
+    ensures { λ r. ⌜ Lays at (wordAnswers (now (text .entry)) from) (now (page .entry)) (now (page .exit)) r ⌝ }
+{
+    let past_comment = place(page, at, token::fixed(text, from, b"c "));
+    let past_verdict = place(page, past_comment, token::fixed(text, from, b"SATISFIABLE"));
+    let past_header = place(page, past_verdict, token::word(text, from, b"p"));
+    place(page, past_header, token::word(text, from, b"cnf"))
+}
+
+fn number_answers(page: &mut [u8], at: usize, text: &[u8], from: usize, limit: u64) -> usize
+    ensures { λ r. ⌜ Lays at (numberAnswers (now (text .entry)) from limit) (now (page .entry)) (now (page .exit)) r ⌝ }
+{
+    let past_uint = uint_words(page, at, numeral::uint(text, from, limit));
+    let past_braced = uint_words(page, past_uint, numeral::braced_uint(text, from, limit));
+    int_words(
+        page,
+        past_braced,
+        numeral::int(text, from, (limit % 4294967296) as u32),
+    )
+}
+
+fn answer_line(page: &mut [u8], at: usize, text: &[u8], from: usize, limit: u64) -> usize
+    ensures { λ r. ⌜ Lays at (answerLine (now (text .entry)) from limit) (now (page .entry)) (now (page .exit)) r ⌝ }
+{
+    let past_ends = end_answers(page, at, text, from);
+    let past_lines = line_answers(page, past_ends, text, from);
+    let past_words = word_answers(page, past_lines, text, from);
+    let past_numbers = number_answers(page, past_words, text, from, limit);
+    lines::word(page, past_numbers, b" \n")
+}
+
+// The place and the limit of a case, and whether another case may follow.
+fn asked(page: &mut [u8], text: &[u8]) -> bool {
+    let mut numbers = [0u8; 16];
+    let taken = console::take(&mut numbers);
+    let Taken::Whole = taken else {
+        return console::stop(taken);
+    };
+    let from = frame::u64_at(&numbers, 0) as usize;
+    let past = answer_line(page, 0, text, from, frame::u64_at(&numbers, 8));
+    console::print(lines::upto(page, past));
+    true
+}
+
+// The rest of a case whose text fills the slice lent, and whether another case may follow.
+fn case(page: &mut [u8], text: &mut [u8]) -> bool {
+    let taken = console::take(text);
+    let Taken::Whole = taken else {
+        return console::stop(taken);
+    };
+    asked(page, text)
 }
 
 fn size(b: u8) -> usize
@@ -104,28 +178,29 @@ fn size(b: u8) -> usize
     b as usize
 }
 
-// The rest of a case whose text fills the slice lent.
-fn case(text: &mut [u8]) {
-    io::read_full(STDIN_FILENO, text);
-    let at = next_number() as usize;
-    answers(text, at, next_number());
+// One case, and whether another may follow.
+fn one(page: &mut [u8]) -> bool {
+    let mut first = [0u8; 1];
+    let taken = console::take(&mut first);
+    match taken {
+        Taken::Whole => {
+            let n = size(frame::u8_at(&first, 0));
+            let mut text = [0u8; TEXT];
+            case(page, &mut text[..n])
+        }
+        Taken::Part(_) => false,
+        Taken::Failed => console::stop(taken),
+    }
 }
 
-// One case, and whether there was one.
-fn one() -> bool {
-    let mut first = [0u8; 1];
-    if io::read_full(STDIN_FILENO, &mut first) < 1 {
-        return false;
+fn cases(page: &mut [u8]) {
+    let mut turns = u64::MAX;
+    while turns > 0 && one(page) {
+        turns -= 1;
     }
-    let n = size(frame::u8_at(&first, 0));
-    let mut text = io::buffer();
-    case(&mut text[..n]);
-    true
 }
 
 fn main() {
-    let mut turns = u64::MAX;
-    while turns > 0 && one() {
-        turns -= 1;
-    }
+    let mut page = [0u8; PAGE];
+    cases(&mut page);
 }

@@ -1,0 +1,2 @@
+-- The line of a case.
+pub mod Answers
