@@ -1,3 +1,2 @@
--- What is laid into a page, and the words that the programs print.
-pub mod Pages
+-- The lines that several programs print.
 pub mod Printed

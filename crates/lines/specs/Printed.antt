@@ -1,12 +1,9 @@
--- The words that the programs print.
-use Prim.Native.Nat.{ℕ, _+_, _-_, _/_, _%_}
-use Prim.Native.Char.{code}
-use mathlib.Core.Bool.{cond}
-use mathlib.Core.List.{List, [], _∷_, _++_, flatMap}
-use lib.Dec.{ltb}
+-- The lines that several programs print.
+use Prim.Native.Nat.{ℕ}
+use mathlib.Core.List.{List, [], _++_}
 use lib.IntN.{ℤ}
 use Rattle.dimacs.specs.Bytes.{bytes}
-use Rattle.dimacs.specs.Writing.{digits, signedDigits, thirdDigits}
+use Rattle.dimacs.specs.Writing.{digits, thirdDigits}
 use Rattle.dimacs.specs.declared.Format.{Format}
 use Rattle.dimacs.specs.declared.Format.the-variants.{Plain, Weighted, Grouped}
 use Rattle.dimacs.specs.declared.Header.{Header}
@@ -14,34 +11,11 @@ use Rattle.dimacs.specs.declared.Opening.{Opening}
 use Rattle.dimacs.specs.declared.Opening.the-variants.{NoHeader, Refused}
 use Rattle.dimacs.specs.declared.Opening.the-variants as opening
 use Rattle.dimacs.specs.declared.Refusal.{Refusal}
-
--- A number after a space.
-abbrev pub printedNumber : ℕ → List ℕ
-printedNumber n = bytes " " ++ digits n
+use Rattle.pages.specs.Printed.{printedNumber, printedLiterals}
 
 -- A number after a word and a space.
 abbrev pub printedLabel : List ℕ → ℕ → List ℕ
 printedLabel label n = label ++ printedNumber n
-
--- A literal after a space.
-abbrev pub printedLiteral : ℤ → List ℕ
-printedLiteral l = bytes " " ++ signedDigits l
-
--- Literals, each after a space.
-abbrev pub printedLiterals : List ℤ → List ℕ
-printedLiterals so = flatMap printedLiteral so
-
--- The digit of a number below 16.
-abbrev pub hexDigit : ℕ → ℕ
-hexDigit d = cond (ltb d 10) (code "0" + d) (code "a" + (d - 10))
-
--- A byte in hex.
-abbrev pub printedHex : ℕ → List ℕ
-printedHex b = hexDigit (b / 16) ∷ hexDigit (b % 16) ∷ []
-
--- A word in hex.
-abbrev pub printedHexWord : List ℕ → List ℕ
-printedHexWord w = flatMap printedHex w
 
 -- A header: its word and its counts.
 abbrev pub printedHeader : Format → Header → List ℕ
@@ -76,5 +50,5 @@ abbrev pub printedCase : ℕ → List ℕ
 printedCase n = printedLabel (bytes "case") n
 
 -- Words, and the line end.
-abbrev pub line : List ℕ → List ℕ
-line words = words ++ bytes "\n"
+abbrev pub printedLine : List ℕ → List ℕ
+printedLine words = words ++ bytes "\n"

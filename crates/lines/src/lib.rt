@@ -1,61 +1,19 @@
-// What the programs print, laid into a lent page.
-//
-// Each function lays a piece at a place and answers the place past it. A piece is cut off where the page ends, so that every place and every page will do, and
-// what is laid from the place answered goes on where the piece stopped.
-ghost use mathlib.Core.List.{[], _∷_, _++_};
-ghost use mathlib.Core.Path.{_≡_};
-ghost use Prim.Native.Nat.{_<_};
-ghost use lib.ListN.{take};
-ghost use Rattle.dimacs.specs.Writing.{digits, signedDigits, thirdDigits};
-ghost use Rattle.lines.specs.Pages.{Lays};
-ghost use Rattle.lines.specs.Printed.{printedNumber, printedLabel, printedLiteral, printedLiterals, hexDigit, printedHex, printedHexWord, printedHeader, printedLead, printedClause, printedRefusal, printedPlacedRefusal, printedOpening, printedCase, line};
-use decimals::put_digits;
+// The lines that several programs print, laid into a lent page as `pages` lays words and numbers.
+ghost use mathlib.Core.List.{[]};
+ghost use Rattle.dimacs.specs.Writing.{thirdDigits};
+ghost use Rattle.pages.specs.Pages.{Lays};
+ghost use Rattle.lines.specs.Printed.{printedLabel, printedHeader, printedLead, printedClause, printedRefusal, printedPlacedRefusal, printedOpening, printedCase, printedLine};
 use dimacs::Format;
 use dimacs::Header;
 use dimacs::Opening;
 use dimacs::Refusal;
-use dimacs::magnitude;
-
-// One byte.
-fn byte(page: &mut [u8], at: usize, b: u8) -> usize
-    ensures { λ r. ⌜ Lays at (b ∷ []) (now (page .entry)) (now (page .exit)) r ⌝ }
-{
-    if page.len() <= at {
-        return at;
-    }
-    page[at] = b;
-    at + 1
-}
-
-// A word as it stands.
-pub fn word(page: &mut [u8], at: usize, w: &[u8]) -> usize
-    ensures { λ r. ⌜ Lays at (now (w .entry)) (now (page .entry)) (now (page .exit)) r ⌝ }
-{
-    let mut past = at;
-    let mut i: usize = 0;
-    while i < w.len() {
-        past = byte(page, past, w[i]);
-        i += 1;
-    }
-    past
-}
-
-// A number in decimal.
-pub fn plain_number(page: &mut [u8], at: usize, n: u64) -> usize
-    ensures { λ r. ⌜ Lays at (digits n) (now (page .entry)) (now (page .exit)) r ⌝ }
-{
-    let mut all = [0u8; 20];
-    let long = put_digits(&mut all, 0, n);
-    word(page, at, &all[..long])
-}
-
-// A number after a space.
-pub fn number(page: &mut [u8], at: usize, n: u64) -> usize
-    ensures { λ r. ⌜ Lays at (printedNumber n) (now (page .entry)) (now (page .exit)) r ⌝ }
-{
-    let past = byte(page, at, b' ');
-    plain_number(page, past, n)
-}
+use pages::byte;
+pub use pages::hex_word;
+pub use pages::literals;
+pub use pages::number;
+pub use pages::plain_number;
+pub use pages::upto;
+pub use pages::word;
 
 // A word, and a number after a space.
 fn labelled(page: &mut [u8], at: usize, label: &[u8], n: u64) -> usize
@@ -63,69 +21,6 @@ fn labelled(page: &mut [u8], at: usize, label: &[u8], n: u64) -> usize
 {
     let past = word(page, at, label);
     number(page, past, n)
-}
-
-// A literal in decimal.
-fn signed(page: &mut [u8], at: usize, v: i32) -> usize
-    ensures { λ r. ⌜ Lays at (signedDigits v) (now (page .entry)) (now (page .exit)) r ⌝ }
-{
-    if v < 0 {
-        let past = byte(page, at, b'-');
-        return plain_number(page, past, magnitude(v));
-    }
-    plain_number(page, at, magnitude(v))
-}
-
-// A literal after a space.
-fn literal(page: &mut [u8], at: usize, v: i32) -> usize
-    ensures { λ r. ⌜ Lays at (printedLiteral v) (now (page .entry)) (now (page .exit)) r ⌝ }
-{
-    let past = byte(page, at, b' ');
-    signed(page, past, v)
-}
-
-// Literals, each after a space.
-pub fn literals(page: &mut [u8], at: usize, lits: &[i32]) -> usize
-    ensures { λ r. ⌜ Lays at (printedLiterals (now (lits .entry))) (now (page .entry)) (now (page .exit)) r ⌝ }
-{
-    let mut past = at;
-    let mut i: usize = 0;
-    while i < lits.len() {
-        past = literal(page, past, lits[i]);
-        i += 1;
-    }
-    past
-}
-
-fn hex_digit(d: u8) -> u8
-    requires { ⌜ d < 16 ⌝ }
-    ensures { λ r. ⌜ r ≡ hexDigit d ⌝ }
-{
-    if d < 10 {
-        return b'0' + d;
-    }
-    b'a' + (d - 10)
-}
-
-// A byte in two hex digits.
-fn hex(page: &mut [u8], at: usize, b: u8) -> usize
-    ensures { λ r. ⌜ Lays at (printedHex b) (now (page .entry)) (now (page .exit)) r ⌝ }
-{
-    let past = byte(page, at, hex_digit(b / 16));
-    byte(page, past, hex_digit(b % 16))
-}
-
-// A word in hex, two digits for each byte.
-pub fn hex_word(page: &mut [u8], at: usize, w: &[u8]) -> usize
-    ensures { λ r. ⌜ Lays at (printedHexWord (now (w .entry))) (now (page .entry)) (now (page .exit)) r ⌝ }
-{
-    let mut past = at;
-    let mut i: usize = 0;
-    while i < w.len() {
-        past = hex(page, past, w[i]);
-        i += 1;
-    }
-    past
 }
 
 // The third count of a header, in the formats that have one.
@@ -215,39 +110,29 @@ pub fn opening_words(
 }
 
 pub fn header_line(page: &mut [u8], at: usize, header: Header, format: Format) -> usize
-    ensures { λ r. ⌜ Lays at (line (printedHeader format header)) (now (page .entry)) (now (page .exit)) r ⌝ }
+    ensures { λ r. ⌜ Lays at (printedLine (printedHeader format header)) (now (page .entry)) (now (page .exit)) r ⌝ }
 {
     let past = header_words(page, at, header, format);
     byte(page, past, b'\n')
 }
 
 pub fn clause_line(page: &mut [u8], at: usize, format: Format, extra: u64, lits: &[i32]) -> usize
-    ensures { λ r. ⌜ Lays at (line (printedClause format extra (now (lits .entry)))) (now (page .entry)) (now (page .exit)) r ⌝ }
+    ensures { λ r. ⌜ Lays at (printedLine (printedClause format extra (now (lits .entry)))) (now (page .entry)) (now (page .exit)) r ⌝ }
 {
     let past = clause_words(page, at, format, extra, lits);
     byte(page, past, b'\n')
 }
 
 pub fn refused_line(page: &mut [u8], at: usize, r: Refusal) -> usize
-    ensures { λ past. ⌜ Lays at (line (printedPlacedRefusal r [])) (now (page .entry)) (now (page .exit)) past ⌝ }
+    ensures { λ past. ⌜ Lays at (printedLine (printedPlacedRefusal r [])) (now (page .entry)) (now (page .exit)) past ⌝ }
 {
     let past = refused_at(page, at, r, b"");
     byte(page, past, b'\n')
 }
 
 pub fn case_line(page: &mut [u8], at: usize, case: u64) -> usize
-    ensures { λ r. ⌜ Lays at (line (printedCase case)) (now (page .entry)) (now (page .exit)) r ⌝ }
+    ensures { λ r. ⌜ Lays at (printedLine (printedCase case)) (now (page .entry)) (now (page .exit)) r ⌝ }
 {
     let past = labelled(page, at, b"case", case);
     byte(page, past, b'\n')
-}
-
-// The first so many bytes of a page, or all of it.
-pub fn upto(page: &[u8], past: usize) -> &[u8]
-    ensures { λ r. ⌜ now r ≡ take past (now (page .entry)) ⌝ }
-{
-    if page.len() < past {
-        return page;
-    }
-    &page[..past]
 }

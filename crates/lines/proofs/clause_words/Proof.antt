@@ -1,6 +1,6 @@
 -- `lines::clause_words` meets its contract: the word, the weight or group, the literals. Assumes nothing.
 use borrow.Author.Needs.{needs}
-use Rattle.lines.proofs.Pages.{lay-then}
+use Rattle.pages.proofs.Pages.{lay-then}
 use Rattle.lines.proofs.clause_words.Statement.{statement}
 use Rattle.lines.proofs.clause_words.Tie as tie
 

@@ -1,6 +1,6 @@
 -- `lines::header_line` meets its contract: words, then the line end. Assumes nothing.
 use borrow.Author.Needs.{needs}
-use Rattle.lines.proofs.Pages.{lay-then}
+use Rattle.pages.proofs.Pages.{lay-then}
 use Rattle.lines.proofs.header_line.Statement.{statement}
 use Rattle.lines.proofs.header_line.Tie as tie
 

@@ -1,6 +1,6 @@
 -- `lines::header_words` meets its contract: the counts one after the other. Assumes nothing.
 use borrow.Author.Needs.{needs}
-use Rattle.lines.proofs.Pages.{lay-then}
+use Rattle.pages.proofs.Pages.{lay-then}
 use Rattle.lines.proofs.header_words.Statement.{statement}
 use Rattle.lines.proofs.header_words.Tie as tie
 

@@ -1,6 +1,6 @@
 -- `lines::labelled` meets its contract: a word, then a number. Assumes nothing.
 use borrow.Author.Needs.{needs}
-use Rattle.lines.proofs.Pages.{lay-then}
+use Rattle.pages.proofs.Pages.{lay-then}
 use Rattle.lines.proofs.labelled.Statement.{statement}
 use Rattle.lines.proofs.labelled.Tie as tie
 

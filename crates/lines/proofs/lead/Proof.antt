@@ -1,6 +1,6 @@
 -- `lines::lead` meets its contract: by format. Assumes nothing.
 use borrow.Author.Needs.{needs}
-use Rattle.lines.proofs.Pages.{lay-nothing, lay-then}
+use Rattle.pages.proofs.Pages.{lay-nothing, lay-then}
 use Rattle.lines.proofs.lead.Statement.{statement}
 use Rattle.lines.proofs.lead.Tie as tie
 

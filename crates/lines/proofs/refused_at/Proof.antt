@@ -1,6 +1,6 @@
 -- `lines::refused_at` meets its contract: a labelled number, then another. Assumes nothing.
 use borrow.Author.Needs.{needs}
-use Rattle.lines.proofs.Pages.{lay-then}
+use Rattle.pages.proofs.Pages.{lay-then}
 use Rattle.lines.proofs.refused_at.Statement.{statement}
 use Rattle.lines.proofs.refused_at.Tie as tie
 

@@ -1,6 +1,6 @@
 -- `lines::refused_words` meets its contract: one labelled number more. Assumes nothing.
 use borrow.Author.Needs.{needs}
-use Rattle.lines.proofs.Pages.{lay-then}
+use Rattle.pages.proofs.Pages.{lay-then}
 use Rattle.lines.proofs.refused_words.Statement.{statement}
 use Rattle.lines.proofs.refused_words.Tie as tie
 

@@ -1,6 +1,6 @@
 -- `lines::third` meets its contract: by format. Assumes nothing.
 use borrow.Author.Needs.{needs}
-use Rattle.lines.proofs.Pages.{lay-nothing}
+use Rattle.pages.proofs.Pages.{lay-nothing}
 use Rattle.lines.proofs.third.Statement.{statement}
 use Rattle.lines.proofs.third.Tie as tie
 

@@ -1,8 +1,8 @@
--- `lines::number` meets its contract: a space, then the digits. Assumes nothing.
+-- `pages::number` meets its contract: a space, then the digits. Assumes nothing.
 use borrow.Author.Needs.{needs}
-use Rattle.lines.proofs.Pages.{lay-then}
-use Rattle.lines.proofs.number.Statement.{statement}
-use Rattle.lines.proofs.number.Tie as tie
+use Rattle.pages.proofs.Pages.{lay-then}
+use Rattle.pages.proofs.number.Statement.{statement}
+use Rattle.pages.proofs.number.Tie as tie
 
 byte-requires : tie.Need-byte-requires
 byte-requires c κs = search needs

@@ -1,11 +1,11 @@
--- `lines::hex_word` meets its contract: each turn lays the next byte in hex. Assumes nothing.
+-- `pages::hex_word` meets its contract: each turn lays the next byte in hex. Assumes nothing.
 use Prim.Native.Nat.{_-_}
 use borrow.Author.Needs.{needs}
 use lib.ListN.{length}
-use Rattle.lines.specs.Printed.{printedHex}
-use Rattle.lines.proofs.Pages.{LaidSome, some-none, some-long, some-more, some-all}
-use Rattle.lines.proofs.hex_word.Statement.{statement}
-use Rattle.lines.proofs.hex_word.Tie as tie
+use Rattle.pages.specs.Printed.{printedHex}
+use Rattle.pages.proofs.Pages.{LaidSome, some-none, some-long, some-more, some-all}
+use Rattle.pages.proofs.hex_word.Statement.{statement}
+use Rattle.pages.proofs.hex_word.Tie as tie
 
 abbrev Inv-loop : tie.InvT-loop
 Inv-loop page₀ at w past₀ i₀ page past i = LaidSome printedHex at w page₀ page past i

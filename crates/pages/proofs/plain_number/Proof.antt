@@ -1,11 +1,11 @@
--- `lines::plain_number` meets its contract: a number of 64 bits has at most twenty digits. Assumes nothing.
+-- `pages::plain_number` meets its contract: a number of 64 bits has at most twenty digits. Assumes nothing.
 use native.Mathlib.Omega.{arith}
 use borrow.Author.Needs.{needs}
 use Rattle.decimals.proofs.Digits.{digits-below}
 use Rattle.dimacs.specs.Writing.{digits}
-use Rattle.lines.proofs.Pages.{Stands, whole-stands}
-use Rattle.lines.proofs.plain_number.Statement.{statement}
-use Rattle.lines.proofs.plain_number.Tie as tie
+use Rattle.pages.proofs.Pages.{Stands, whole-stands}
+use Rattle.pages.proofs.plain_number.Statement.{statement}
+use Rattle.pages.proofs.plain_number.Tie as tie
 
 slice-aggregate-put-digits : tie.Need-slice-aggregate-put-digits
 slice-aggregate-put-digits c = search needs

@@ -1,8 +1,8 @@
--- `lines::hex` meets its contract: one digit after the other. Assumes nothing.
+-- `pages::hex` meets its contract: one digit after the other. Assumes nothing.
 use borrow.Author.Needs.{needs}
-use Rattle.lines.proofs.Pages.{lay-then}
-use Rattle.lines.proofs.hex.Statement.{statement}
-use Rattle.lines.proofs.hex.Tie as tie
+use Rattle.pages.proofs.Pages.{lay-then}
+use Rattle.pages.proofs.hex.Statement.{statement}
+use Rattle.pages.proofs.hex.Tie as tie
 
 hex-digit-requires : tie.Need-hex-digit-requires
 hex-digit-requires c κs = search needs

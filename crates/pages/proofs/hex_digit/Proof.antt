@@ -1,8 +1,8 @@
--- `lines::hex_digit` meets its contract: as it says. Assumes nothing.
+-- `pages::hex_digit` meets its contract: as it says. Assumes nothing.
 use borrow.Author.Needs.{needs}
 use borrow.Author.Tests.{lt-ltb, le-ltb}
-use Rattle.lines.proofs.hex_digit.Statement.{statement}
-use Rattle.lines.proofs.hex_digit.Tie as tie
+use Rattle.pages.proofs.hex_digit.Statement.{statement}
+use Rattle.pages.proofs.hex_digit.Tie as tie
 
 add-result : tie.Need-add-result
 add-result c = search needs

@@ -1,10 +1,10 @@
--- `lines::literal` meets its contract: a space, then the number. Assumes nothing.
+-- `pages::literal` meets its contract: a space, then the number. Assumes nothing.
 use borrow.Author.Needs.{needs}
 use mir.Syntax.{w32}
 use mir.ValLaws.{toZ-ofZ}
-use Rattle.lines.proofs.Pages.{lay-then}
-use Rattle.lines.proofs.literal.Statement.{statement}
-use Rattle.lines.proofs.literal.Tie as tie
+use Rattle.pages.proofs.Pages.{lay-then}
+use Rattle.pages.proofs.literal.Statement.{statement}
+use Rattle.pages.proofs.literal.Tie as tie
 
 byte-requires : tie.Need-byte-requires
 byte-requires c κs = search needs

@@ -1,10 +1,10 @@
--- `lines::upto` meets its contract: of a page that is shorter all is taken. Assumes nothing.
+-- `pages::upto` meets its contract: of a page that is shorter all is taken. Assumes nothing.
 use mathlib.Core.Path.{sym}
 use native.Mathlib.Omega.{arith}
 use borrow.Author.Needs.{needs}
 use lib.Seq.{take-all, length-take-le}
-use Rattle.lines.proofs.upto.Statement.{statement}
-use Rattle.lines.proofs.upto.Tie as tie
+use Rattle.pages.proofs.upto.Statement.{statement}
+use Rattle.pages.proofs.upto.Tie as tie
 
 returns : tie.Need-returns
 returns c =

@@ -1,11 +1,11 @@
--- `lines::word` meets its contract: each turn lays the next byte. Assumes nothing.
+-- `pages::word` meets its contract: each turn lays the next byte. Assumes nothing.
 use Prim.Native.Nat.{_-_}
 use mathlib.Core.List.{[], _∷_}
 use borrow.Author.Needs.{needs}
 use lib.ListN.{length}
-use Rattle.lines.proofs.Pages.{LaidSome, flat-bytes, some-none, some-long, some-more, some-all}
-use Rattle.lines.proofs.word.Statement.{statement}
-use Rattle.lines.proofs.word.Tie as tie
+use Rattle.pages.proofs.Pages.{LaidSome, flat-bytes, some-none, some-long, some-more, some-all}
+use Rattle.pages.proofs.word.Statement.{statement}
+use Rattle.pages.proofs.word.Tie as tie
 
 abbrev Inv-loop : tie.InvT-loop
 Inv-loop page₀ at w past₀ i₀ page past i = LaidSome (λ b. b ∷ []) at w page₀ page past i

@@ -1,8 +1,8 @@
--- `lines::byte` meets its contract: the byte is stored where the page goes on. Assumes nothing.
+-- `pages::byte` meets its contract: the byte is stored where the page goes on. Assumes nothing.
 use borrow.Author.Needs.{needs}
-use Rattle.lines.proofs.Pages.{lay-byte, lay-past}
-use Rattle.lines.proofs.byte.Statement.{statement}
-use Rattle.lines.proofs.byte.Tie as tie
+use Rattle.pages.proofs.Pages.{lay-byte, lay-past}
+use Rattle.pages.proofs.byte.Statement.{statement}
+use Rattle.pages.proofs.byte.Tie as tie
 
 returns : tie.Need-returns
 returns c = lay-past _ _ _ (c .if1 .taken)

@@ -1,4 +1,4 @@
--- `lines::literals` meets its contract: each turn lays the next literal. Assumes nothing.
+-- `pages::literals` meets its contract: each turn lays the next literal. Assumes nothing.
 use Prim.Native.Nat.{_-_}
 use mathlib.Core.Path.{_≡_}
 use borrow.Author.Needs.{needs}
@@ -6,10 +6,10 @@ use lib.IntN.{pos}
 use lib.ListN.{length, getD}
 use mir.Syntax.{w32}
 use mir.Val.{toZ, ofZ}
-use Rattle.lines.specs.Printed.{printedLiteral}
-use Rattle.lines.proofs.Pages.{LaidSome, some-none, some-long, some-more, some-all}
-use Rattle.lines.proofs.literals.Statement.{statement}
-use Rattle.lines.proofs.literals.Tie as tie
+use Rattle.pages.specs.Printed.{printedLiteral}
+use Rattle.pages.proofs.Pages.{LaidSome, some-none, some-long, some-more, some-all}
+use Rattle.pages.proofs.literals.Statement.{statement}
+use Rattle.pages.proofs.literals.Tie as tie
 
 abbrev Inv-loop : tie.InvT-loop
 Inv-loop page₀ at lits past₀ i₀ page past i = LaidSome printedLiteral at lits page₀ page past i

@@ -1,11 +1,11 @@
--- `lines::signed` meets its contract: a literal is its sign and its size. Assumes nothing.
+-- `pages::signed` meets its contract: a literal is its sign and its size. Assumes nothing.
 use borrow.Author.Needs.{needs}
 use mir.Syntax.{w32}
 use mir.ValLaws.{toZ-ofZ}
 use Rattle.decimals.proofs.Literals.{negative-is, positive-is}
-use Rattle.lines.proofs.Pages.{lay-then}
-use Rattle.lines.proofs.signed.Statement.{statement}
-use Rattle.lines.proofs.signed.Tie as tie
+use Rattle.pages.proofs.Pages.{lay-then}
+use Rattle.pages.proofs.signed.Statement.{statement}
+use Rattle.pages.proofs.signed.Tie as tie
 
 byte-requires : tie.Need-byte-requires
 byte-requires c κs = search needs

@@ -8,7 +8,7 @@ use lib.ListN.{length, getD, set, take, length-take}
 use lib.Seq.{take-suc, take-all, take-nil, take-at, sets-eq, length-take-le}
 use Rattle.decimals.specs.Pieces.{PutAt, ifRoom}
 use Rattle.decimals.proofs.Pieces.{one-piece, put-nothing, put-then, put-keeps-length, puts-whole}
-use Rattle.lines.specs.Pages.{Lays}
+use Rattle.pages.specs.Pages.{Lays}
 
 -- So many of two lists are so many of the first, and what is left of them of the second.
 take-append : {A : Type 0} (n : ℕ) (p q : List A) → take n (p ++ q) ≡ take n p ++ take (n - length p) q
