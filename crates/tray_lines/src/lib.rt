@@ -1,7 +1,7 @@
 // What a turn tells a job, laid into a lent page, as `lines` lays what a reader says.
 ghost use mathlib.Core.Path.{_≡_};
 ghost use lib.ListN.{take};
-ghost use Rattle.lines.specs.Pages.{Lays};
+ghost use Rattle.pages.specs.Pages.{Lays};
 ghost use Rattle.tray_lines.specs.Printed.{printedNext, printedSaid};
 use clause::Next;
 use dimacs::Format;
