@@ -6,7 +6,7 @@ ghost use Prim.Native.Nat.{_+_, _≤_};
 ghost use lib.ListN.{length};
 ghost use Rattle.writer.specs.Answers.{lineLength};
 ghost use Rattle.formula.proofs.Runs.{CountFits};
-ghost use Rattle.lines.specs.Pages.{Lays};
+ghost use Rattle.pages.specs.Pages.{Lays};
 ghost use Rattle.copy_cases.specs.Titles.{formatName, titleLine};
 use clause::Next;
 use dimacs::Format;

@@ -2,7 +2,7 @@
 //
 // A frame is format, mode and length, of four bytes each, little-endian, and then so many bytes of text. Each is answered by a line: the number of the refusal or 0, and its place or the text's length. A frame that is cut off, or whose text is too long, is `cut`, and an input that cannot be read is `unreadable`; nothing follows them.
 ghost use Rattle.latchtwig.specs.Outcomes.{outcome};
-ghost use Rattle.lines.specs.Pages.{Lays};
+ghost use Rattle.pages.specs.Pages.{Lays};
 ghost use Rattle.host_cases.specs.Answers.{outcomeLine};
 use console::Taken;
 
@@ -21,9 +21,9 @@ fn outcome_line(page: &mut [u8], at: usize, format: u32, mode: u32, text: &[u8])
 {
     let number = latchtwig::latchtwig_refusal(format, mode, text);
     let place = latchtwig::latchtwig_place(format, mode, text);
-    let past_number = lines::plain_number(page, at, number as u64);
-    let past_place = lines::number(page, past_number, place);
-    lines::word(page, past_place, b"\n")
+    let past_number = pages::plain_number(page, at, number as u64);
+    let past_place = pages::number(page, past_number, place);
+    pages::word(page, past_place, b"\n")
 }
 
 // What a frame says before its text.
@@ -48,7 +48,7 @@ fn case(page: &mut [u8], head: Head, text: &mut [u8]) -> bool {
         return console::stop(taken);
     };
     let past = outcome_line(page, 0, head.format, head.mode, text);
-    console::print(lines::upto(page, past));
+    console::print(pages::upto(page, past));
     true
 }
 
@@ -62,13 +62,21 @@ fn framed(page: &mut [u8], head: Head, text: &mut [u8]) -> bool {
     case(page, head, &mut text[..length])
 }
 
+// A frame that is cut off, if any of it came.
+fn cut(got: usize) -> bool {
+    if got == 0 {
+        return false;
+    }
+    console::stop(Taken::Part(got))
+}
+
 // One case, and whether another may follow.
 fn one(page: &mut [u8], text: &mut [u8]) -> bool {
     let mut frame = [0u8; HEAD];
     let taken = console::take(&mut frame);
     match taken {
         Taken::Whole => framed(page, head_of(&frame), text),
-        Taken::Part(got) => 0 < got && console::stop(taken),
+        Taken::Part(got) => cut(got),
         Taken::Failed => console::stop(taken),
     }
 }

@@ -11,7 +11,7 @@ use Rattle.dimacs.specs.declared.Int.{Int}
 use Rattle.dimacs.specs.declared.Int.the-variants as int
 use Rattle.dimacs.specs.declared.Uint.{Uint}
 use Rattle.dimacs.specs.declared.Uint.the-variants as uint
-use Rattle.lines.specs.Printed.{printedNumber, printedLiterals}
+use Rattle.pages.specs.Printed.{printedNumber, printedLiterals}
 
 -- A test as a number.
 abbrev pub bit : Bool → ℕ
@@ -80,5 +80,5 @@ module _ (s : List ℕ) (at : ℕ) where
       printedInt (token.intAt s (limit % 4294967296) at)
 
   -- The whole line.
-  abbrev pub answerLine : ℕ → List ℕ
-  answerLine limit = endAnswers ++ lineAnswers ++ wordAnswers ++ numberAnswers limit ++ bytes " \n"
+  abbrev pub tokenLine : ℕ → List ℕ
+  tokenLine limit = endAnswers ++ lineAnswers ++ wordAnswers ++ numberAnswers limit ++ bytes " \n"

@@ -6,9 +6,9 @@
 // that cannot be read is `unreadable`; nothing follows them.
 ghost use mathlib.Core.Path.{_≡_};
 ghost use Prim.Native.Nat.{_≤_};
-ghost use Rattle.lines.specs.Pages.{Lays};
-ghost use Rattle.lines.specs.Printed.{printedNumber};
-ghost use Rattle.token_cases.specs.Answers.{bit, printedNext, printedEndOfLine, printedUint, printedInt, testAnswers, endAnswers, lineAnswers, wordAnswers, numberAnswers, answerLine};
+ghost use Rattle.pages.specs.Pages.{Lays};
+ghost use Rattle.pages.specs.Printed.{printedNumber};
+ghost use Rattle.token_cases.specs.Answers.{bit, printedNext, printedEndOfLine, printedUint, printedInt, testAnswers, endAnswers, lineAnswers, wordAnswers, numberAnswers, tokenLine};
 use console::Taken;
 use dimacs::EndOfLine;
 use dimacs::Int;
@@ -30,22 +30,22 @@ fn bit(t: bool) -> u64
 fn place(page: &mut [u8], at: usize, n: usize) -> usize
     ensures { λ r. ⌜ Lays at (printedNumber n) (now (page .entry)) (now (page .exit)) r ⌝ }
 {
-    lines::number(page, at, n as u64)
+    pages::number(page, at, n as u64)
 }
 
 // The place past a number.
 fn next_place(page: &mut [u8], at: usize, n: usize) -> usize
     ensures { λ r. ⌜ Lays at (printedNext n) (now (page .entry)) (now (page .exit)) r ⌝ }
 {
-    let past = lines::word(page, at, b"@");
-    lines::plain_number(page, past, n as u64)
+    let past = pages::word(page, at, b"@");
+    pages::plain_number(page, past, n as u64)
 }
 
 fn end_of_line_words(page: &mut [u8], at: usize, e: EndOfLine) -> usize
     ensures { λ r. ⌜ Lays at (printedEndOfLine e) (now (page .entry)) (now (page .exit)) r ⌝ }
 {
     match e {
-        EndOfLine::Missing => lines::word(page, at, b" -"),
+        EndOfLine::Missing => pages::word(page, at, b" -"),
         EndOfLine::Past(next) => place(page, at, next),
     }
 }
@@ -54,10 +54,10 @@ fn uint_words(page: &mut [u8], at: usize, u: Uint) -> usize
     ensures { λ r. ⌜ Lays at (printedUint u) (now (page .entry)) (now (page .exit)) r ⌝ }
 {
     match u {
-        Uint::Missing => lines::word(page, at, b" -"),
-        Uint::TooBig => lines::word(page, at, b" !"),
+        Uint::Missing => pages::word(page, at, b" -"),
+        Uint::TooBig => pages::word(page, at, b" !"),
         Uint::Value(n, next) => {
-            let past = lines::number(page, at, n);
+            let past = pages::number(page, at, n);
             next_place(page, past, next)
         }
     }
@@ -67,14 +67,14 @@ fn int_words(page: &mut [u8], at: usize, i: Int) -> usize
     ensures { λ r. ⌜ Lays at (printedInt i) (now (page .entry)) (now (page .exit)) r ⌝ }
 {
     match i {
-        Int::Missing => lines::word(page, at, b" -"),
-        Int::TooBig => lines::word(page, at, b" !"),
+        Int::Missing => pages::word(page, at, b" -"),
+        Int::TooBig => pages::word(page, at, b" !"),
         Int::Zero(next) => {
-            let past = lines::number(page, at, 0);
+            let past = pages::number(page, at, 0);
             next_place(page, past, next)
         }
         Int::Literal(v, next) => {
-            let past = lines::literals(page, at, &[v]);
+            let past = pages::literals(page, at, &[v]);
             next_place(page, past, next)
         }
     }
@@ -83,8 +83,8 @@ fn int_words(page: &mut [u8], at: usize, i: Int) -> usize
 fn test_answers(page: &mut [u8], at: usize, text: &[u8], from: usize) -> usize
     ensures { λ r. ⌜ Lays at (testAnswers (now (text .entry)) from) (now (page .entry)) (now (page .exit)) r ⌝ }
 {
-    let past = lines::plain_number(page, at, bit(token::eof(text, from)));
-    lines::number(page, past, bit(token::is_end_of_word(text, from)))
+    let past = pages::plain_number(page, at, bit(token::eof(text, from)));
+    pages::number(page, past, bit(token::is_end_of_word(text, from)))
 }
 
 fn end_answers(page: &mut [u8], at: usize, text: &[u8], from: usize) -> usize
@@ -140,14 +140,14 @@ fn number_answers(page: &mut [u8], at: usize, text: &[u8], from: usize, limit: u
     )
 }
 
-fn answer_line(page: &mut [u8], at: usize, text: &[u8], from: usize, limit: u64) -> usize
-    ensures { λ r. ⌜ Lays at (answerLine (now (text .entry)) from limit) (now (page .entry)) (now (page .exit)) r ⌝ }
+fn token_line(page: &mut [u8], at: usize, text: &[u8], from: usize, limit: u64) -> usize
+    ensures { λ r. ⌜ Lays at (tokenLine (now (text .entry)) from limit) (now (page .entry)) (now (page .exit)) r ⌝ }
 {
     let past_ends = end_answers(page, at, text, from);
     let past_lines = line_answers(page, past_ends, text, from);
     let past_words = word_answers(page, past_lines, text, from);
     let past_numbers = number_answers(page, past_words, text, from, limit);
-    lines::word(page, past_numbers, b" \n")
+    pages::word(page, past_numbers, b" \n")
 }
 
 // The place and the limit of a case, and whether another case may follow.
@@ -158,8 +158,8 @@ fn asked(page: &mut [u8], text: &[u8]) -> bool {
         return console::stop(taken);
     };
     let from = frame::u64_at(&numbers, 0) as usize;
-    let past = answer_line(page, 0, text, from, frame::u64_at(&numbers, 8));
-    console::print(lines::upto(page, past));
+    let past = token_line(page, 0, text, from, frame::u64_at(&numbers, 8));
+    console::print(pages::upto(page, past));
     true
 }
 
@@ -178,7 +178,7 @@ fn size(b: u8) -> usize
     b as usize
 }
 
-// One case, and whether another may follow.
+// One case, and whether another may follow. Its first byte is there or the input has ended.
 fn one(page: &mut [u8]) -> bool {
     let mut first = [0u8; 1];
     let taken = console::take(&mut first);

@@ -4,19 +4,20 @@ use mathlib.Core.List.{List, [], _++_}
 use lib.ListN.{length, take}
 use Rattle.dimacs.specs.Bytes.{bytes}
 use Rattle.dimacs.specs.declared.Refusal.{Refusal}
-use Rattle.lines.specs.Printed.{line, printedLabel, printedHexWord, printedRefusal}
+use Rattle.lines.specs.Printed.{printedLine, printedLabel, printedRefusal}
+use Rattle.pages.specs.Printed.{printedHexWord}
 use Rattle.writer.specs.declared.Written.{Written}
 use Rattle.writer.specs.declared.Written.the-variants.{Line, Refused}
 
 -- How many bytes were written, and these in hex.
 abbrev pub writtenLine : List ℕ → List ℕ
-writtenLine w = line (printedLabel (bytes "written") (length w) ++ bytes " " ++ printedHexWord w)
+writtenLine w = printedLine (printedLabel (bytes "written") (length w) ++ bytes " " ++ printedHexWord w)
 
 -- The refusal, whose k is 0.
-abbrev pub refusedLine : Refusal → List ℕ
-refusedLine r = line (printedRefusal r 0 [] [])
+abbrev pub refusedCallLine : Refusal → List ℕ
+refusedCallLine r = printedLine (printedRefusal r 0 [] [])
 
 -- The line that stands in the output, or the refusal.
-abbrev pub answerLine : Written → List ℕ → List ℕ
-answerLine (Line n) out = writtenLine (take n out)
-answerLine (Refused r) out = refusedLine r
+abbrev pub callLine : Written → List ℕ → List ℕ
+callLine (Line n) out = writtenLine (take n out)
+callLine (Refused r) out = refusedCallLine r

@@ -5,8 +5,8 @@
 // a clause, and the first number its weight or group. Each call is answered by `case N` and `written LENGTH BYTES`, the bytes in hexadecimal, or by
 // `refused NUMBER PLACE 0`. A kind that is neither is refused as a format is that is none of the three.
 // Too many literals are `long`, and passed over; a frame that is cut off is `cut`, and an input that cannot be read is `unreadable`, and nothing follows them.
-ghost use Rattle.lines.specs.Pages.{Lays};
-ghost use Rattle.writer_cases.specs.Answers.{writtenLine, refusedLine, answerLine};
+ghost use Rattle.pages.specs.Pages.{Lays};
+ghost use Rattle.writer_cases.specs.Answers.{writtenLine, refusedCallLine, callLine};
 use console::Taken;
 use dimacs::FORMAT_OR_MODE_UNKNOWN;
 use dimacs::Format;
@@ -74,20 +74,20 @@ fn written_line(page: &mut [u8], at: usize, w: &[u8]) -> usize
     lines::word(page, past_bytes, b"\n")
 }
 
-fn refused_line(page: &mut [u8], at: usize, r: Refusal) -> usize
-    ensures { λ past. ⌜ Lays at (refusedLine r) (now (page .entry)) (now (page .exit)) past ⌝ }
+fn refused_call_line(page: &mut [u8], at: usize, r: Refusal) -> usize
+    ensures { λ past. ⌜ Lays at (refusedCallLine r) (now (page .entry)) (now (page .exit)) past ⌝ }
 {
     let past = lines::refused_words(page, at, r, 0, b"", b"");
     lines::word(page, past, b"\n")
 }
 
 // The answer of a call that left this output.
-fn answer_line(page: &mut [u8], at: usize, answer: Written, out: &[u8]) -> usize
-    ensures { λ r. ⌜ Lays at (answerLine answer (now (out .entry))) (now (page .entry)) (now (page .exit)) r ⌝ }
+fn call_line(page: &mut [u8], at: usize, answer: Written, out: &[u8]) -> usize
+    ensures { λ r. ⌜ Lays at (callLine answer (now (out .entry))) (now (page .entry)) (now (page .exit)) r ⌝ }
 {
     match answer {
         Written::Line(n) => written_line(page, at, lines::upto(out, n)),
-        Written::Refused(refusal) => refused_line(page, at, refusal),
+        Written::Refused(refusal) => refused_call_line(page, at, refusal),
     }
 }
 
@@ -135,7 +135,7 @@ fn made(call: Call, lits: &[i32], out: &mut [u8]) -> Written {
 fn answer(page: &mut [u8], call: Call, lits: &[i32], out: &mut [u8]) {
     fill(out);
     let answer = made(call, lits, out);
-    let past = answer_line(page, 0, answer, out);
+    let past = call_line(page, 0, answer, out);
     console::print(lines::upto(page, past));
     rest(out, line_length(answer));
 }
@@ -174,7 +174,7 @@ fn call_of(frame: &[u8]) -> Call {
     }
 }
 
-// Passes over so many bytes, which are more than are taken, and tells whether another frame may follow.
+// Passes over literals that are more than are taken, and tells whether another frame may follow.
 fn long(length: usize) -> bool {
     console::print(b"long\n");
     let taken = console::skip(length);
@@ -194,9 +194,18 @@ fn framed(page: &mut [u8], frame: &[u8], lits: &mut [i32], out: &mut [u8]) -> bo
     called(page, call_of(frame), &mut lits[..given], &mut out[..lent])
 }
 
-fn case_line(page: &mut [u8], case: u64) {
+fn show_case(page: &mut [u8], case: u64) {
     let past = lines::case_line(page, 0, case);
     console::print(lines::upto(page, past));
+}
+
+// A frame that is cut off, if any of it came.
+fn cut(page: &mut [u8], case: u64, got: usize) -> bool {
+    if got == 0 {
+        return false;
+    }
+    show_case(page, case);
+    console::stop(Taken::Part(got))
 }
 
 // One case, and whether another may follow.
@@ -205,16 +214,10 @@ fn one(page: &mut [u8], case: u64, lits: &mut [i32], out: &mut [u8]) -> bool {
     let taken = console::take(&mut frame);
     match taken {
         Taken::Whole => {
-            case_line(page, case);
+            show_case(page, case);
             framed(page, &frame, lits, out)
         }
-        Taken::Part(got) => {
-            if got == 0 {
-                return false;
-            }
-            case_line(page, case);
-            console::stop(taken)
-        }
+        Taken::Part(got) => cut(page, case, got),
         Taken::Failed => console::stop(taken),
     }
 }

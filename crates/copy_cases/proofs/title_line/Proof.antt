@@ -1,5 +1,5 @@
 -- `copy_cases::title_line` meets its contract: a name, a number and a word. Assumes nothing.
-use Rattle.lines.proofs.Pages.{lay-then}
+use Rattle.pages.proofs.Pages.{lay-then}
 use borrow.Author.Needs.{needs}
 use Rattle.copy_cases.proofs.title_line.Statement.{statement}
 use Rattle.copy_cases.proofs.title_line.Tie as tie

@@ -1,5 +1,5 @@
 -- `host_cases::outcome_line` meets its contract: two numbers and the line end. Assumes nothing.
-use Rattle.lines.proofs.Pages.{lay-then}
+use Rattle.pages.proofs.Pages.{lay-then}
 use borrow.Author.Needs.{needs}
 use Rattle.host_cases.proofs.outcome_line.Statement.{statement}
 use Rattle.host_cases.proofs.outcome_line.Tie as tie

@@ -1,5 +1,5 @@
 -- `token_cases::int_words` meets its contract: by what was read. Assumes nothing.
-use Rattle.lines.proofs.Pages.{lay-then}
+use Rattle.pages.proofs.Pages.{lay-then}
 use mathlib.Core.Path.{_≡_}
 use mir.Syntax.{w32}
 use mir.Val.{toZ, ofZ}

@@ -1,5 +1,5 @@
 -- `token_cases::line_answers` meets its contract: one answer after the other. Assumes nothing.
-use Rattle.lines.proofs.Pages.{lay-then}
+use Rattle.pages.proofs.Pages.{lay-then}
 use borrow.Author.Needs.{needs}
 use Rattle.token_cases.proofs.line_answers.Statement.{statement}
 use Rattle.token_cases.proofs.line_answers.Tie as tie

@@ -1,5 +1,5 @@
 -- `token_cases::next_place` meets its contract: a sign, then the number. Assumes nothing.
-use Rattle.lines.proofs.Pages.{lay-then}
+use Rattle.pages.proofs.Pages.{lay-then}
 use borrow.Author.Needs.{needs}
 use Rattle.token_cases.proofs.next_place.Statement.{statement}
 use Rattle.token_cases.proofs.next_place.Tie as tie

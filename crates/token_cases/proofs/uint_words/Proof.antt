@@ -1,5 +1,5 @@
 -- `token_cases::uint_words` meets its contract: by what was read. Assumes nothing.
-use Rattle.lines.proofs.Pages.{lay-then}
+use Rattle.pages.proofs.Pages.{lay-then}
 use borrow.Author.Needs.{needs}
 use Rattle.token_cases.proofs.uint_words.Statement.{statement}
 use Rattle.token_cases.proofs.uint_words.Tie as tie

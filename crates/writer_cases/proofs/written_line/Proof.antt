@@ -1,5 +1,5 @@
 -- `writer_cases::written_line` meets its contract: its pieces in order. Assumes nothing.
-use Rattle.lines.proofs.Pages.{lay-then}
+use Rattle.pages.proofs.Pages.{lay-then}
 use borrow.Author.Needs.{needs}
 use Rattle.writer_cases.proofs.written_line.Statement.{statement}
 use Rattle.writer_cases.proofs.written_line.Tie as tie
