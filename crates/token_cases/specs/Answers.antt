@@ -18,8 +18,8 @@ abbrev pub bit : Bool → ℕ
 bit t = cond t 1 0
 
 -- The place past a number that was read.
-abbrev pub printedNext : ℕ → List ℕ
-printedNext next = bytes "@" ++ digits next
+abbrev pub printedPast : ℕ → List ℕ
+printedPast next = bytes "@" ++ digits next
 
 -- A line end: the place past it.
 abbrev pub printedEndOfLine : EndOfLine → List ℕ
@@ -30,14 +30,14 @@ printedEndOfLine (end.Past next) = printedNumber next
 abbrev pub printedUint : Uint → List ℕ
 printedUint uint.Missing = bytes " -"
 printedUint uint.TooBig = bytes " !"
-printedUint (uint.Value n next) = printedNumber n ++ printedNext next
+printedUint (uint.Value n next) = printedNumber n ++ printedPast next
 
 -- A signed number and the place past it.
 abbrev pub printedInt : Int → List ℕ
 printedInt int.Missing = bytes " -"
 printedInt int.TooBig = bytes " !"
-printedInt (int.Zero next) = printedNumber 0 ++ printedNext next
-printedInt (int.Literal v next) = printedLiterals (v ∷ []) ++ printedNext next
+printedInt (int.Zero next) = printedNumber 0 ++ printedPast next
+printedInt (int.Literal v next) = printedLiterals (v ∷ []) ++ printedPast next
 
 module _ (s : List ℕ) (at : ℕ) where
   -- Whether the text has ended, and whether a word ends.

@@ -8,7 +8,7 @@ ghost use mathlib.Core.Path.{_≡_};
 ghost use Prim.Native.Nat.{_≤_};
 ghost use Rattle.pages.specs.Pages.{Lays};
 ghost use Rattle.pages.specs.Printed.{printedNumber};
-ghost use Rattle.token_cases.specs.Answers.{bit, printedNext, printedEndOfLine, printedUint, printedInt, testAnswers, endAnswers, lineAnswers, wordAnswers, numberAnswers, tokenLine};
+ghost use Rattle.token_cases.specs.Answers.{bit, printedPast, printedEndOfLine, printedUint, printedInt, testAnswers, endAnswers, lineAnswers, wordAnswers, numberAnswers, tokenLine};
 use console::Taken;
 use dimacs::EndOfLine;
 use dimacs::Int;
@@ -35,7 +35,7 @@ fn place(page: &mut [u8], at: usize, n: usize) -> usize
 
 // The place past a number.
 fn next_place(page: &mut [u8], at: usize, n: usize) -> usize
-    ensures { λ r. ⌜ Lays at (printedNext n) (now (page .entry)) (now (page .exit)) r ⌝ }
+    ensures { λ r. ⌜ Lays at (printedPast n) (now (page .entry)) (now (page .exit)) r ⌝ }
 {
     let past = pages::word(page, at, b"@");
     pages::plain_number(page, past, n as u64)
