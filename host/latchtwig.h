@@ -19,10 +19,11 @@ extern "C" {
 #endif
 
 /* Formats. */
-#define LATCHTWIG_PLAIN 0u    /* clauses: `p cnf V C`, then `1 -2 0` */
-#define LATCHTWIG_WEIGHTED 1u /* clauses with a weight each: `p wcnf V C top`, then `5 1 -2 0` */
-#define LATCHTWIG_GROUPED 2u  /* clauses with a group each: `p gcnf V C groups`, then `{3} 1 -2 0` */
-#define LATCHTWIG_LOG 3u      /* what a solver prints: `s SATISFIABLE`, then `v 1 -2 0` */
+#define LATCHTWIG_PLAIN 0u         /* clauses: `p cnf V C`, then `1 -2 0` */
+#define LATCHTWIG_WEIGHTED 1u      /* clauses with a weight each: `p wcnf V C top`, then `5 1 -2 0` */
+#define LATCHTWIG_GROUPED 2u       /* clauses with a group each: `p gcnf V C groups`, then `{3} 1 -2 0` */
+#define LATCHTWIG_LOG 3u           /* what a solver prints: `s SATISFIABLE`, then `v 1 -2 0` */
+#define LATCHTWIG_WEIGHTED_2022 4u /* hard clauses and soft ones with a weight each, by the rules of 2022: no header, `h 1 -2 0` and `5 1 -2 0`; both modes read alike */
 
 /* Modes. */
 #define LATCHTWIG_STRICT 0u
@@ -37,7 +38,7 @@ extern "C" {
  *    5  a line end is expected
  *    6  a literal or 0 is expected
  *    7  a literal or 0 is expected after the line end
- *    8  literals are expected after a weight or group
+ *    8  literals are expected after a weight, a group or `h`
  *    9  a clause, a comment, a line end or a permitted end of the text is expected
  *   10  a count of variables up to 2147483647 is expected
  *   11  a count of clauses up to 18446744073709551615 is expected
@@ -50,6 +51,8 @@ extern "C" {
  *   18  a log line of a permitted kind is expected
  *   19  the 0 that closes the assignment is expected
  *   26  a known format and a known mode are expected
+ *   32  a weight above 0 is expected
+ *   33  no header is expected, as the 2022 form has none
  *
  * In the strict mode 9 is also what a wrong clause count comes to, other than 0, which is none: the place is the text's end if there are fewer clauses, and the first clause
  * beyond the count if there are more. With 26 nothing was read.

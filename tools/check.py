@@ -1,6 +1,6 @@
 """Checks files in any format and mode.
 
-usage: tools/check FORMAT MODE [FILE...]    (FORMAT plain, weighted, grouped or log; MODE strict or lenient)
+usage: tools/check FORMAT MODE [FILE...]    (FORMAT plain, weighted, grouped, log or weighted2022; MODE strict or lenient)
 
 For each FILE, or for standard input (`-`, or none named), one line says that it is accepted, a log with its verdict, or how it is refused: the number, the
 place, and what is expected there. The program `reader_cases` reads the files; it is proved and built first.
@@ -24,7 +24,7 @@ from frames import LONGEST
 from refusals import NUMBERS, WORDS
 from solvers import ROOM, answers
 
-FORMATS = ["plain", "weighted", "grouped", "log"]
+FORMATS = ["plain", "weighted", "grouped", "log", "weighted2022"]
 MODES = ["strict", "lenient"]
 
 

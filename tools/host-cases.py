@@ -39,13 +39,13 @@ def stored(where):
 
 def unknown():
     """Numbers that name no format or no mode, beside ones that do."""
-    odd = (4, 5, 254, 255, 256, 257, 258, 259, 65535, 65536, 2**24, 2**31, 2**32 - 1)
+    odd = (5, 6, 254, 255, 256, 257, 258, 259, 65535, 65536, 2**24, 2**31, 2**32 - 1)
     for text in (b"", b"1 0\n", b"1 0 2 0\n"):
         for n in odd:
             for known in (0, 1):
                 yield n, known, text, UNKNOWN, 0
-            for known in (0, 1, 2, 3, 256):
-                yield known, 2 if n == 4 else n, text, UNKNOWN, 0
+            for known in (0, 1, 2, 3, 4, 256):
+                yield known, 2 if n == 5 else n, text, UNKNOWN, 0
 
 
 def full():
@@ -56,6 +56,8 @@ def full():
             (0, b"p cnf 1 0\n", b"0"),
             (1, b"7 ", b"0\n"),
             (2, b"{7} ", b"0\n"),
+            (4, b"h ", b"0\n"),
+            (4, b"7 ", b"0\n"),
             (3, b"v ", b"0\n"),
             (3, b"s SATISFIABLE\nv ", b"0\ns SATISFIABLE\n"),
         ):

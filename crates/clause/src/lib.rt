@@ -1,7 +1,7 @@
 // A clause of each format, read into a lent buffer of literals: how it begins, its literals, and how it ends.
 ghost use mathlib.Core.Path.{_≡_};
 ghost use lib.ListN.{length};
-ghost use Rattle.dimacs.specs.Clauses.{instead, absent, startBy, startAt, closing, clauseAt};
+ghost use Rattle.dimacs.specs.Clauses.{instead, absent, isZero, literalsAfter, startBy, softBy, startIn2022, startAt, closing, clauseAt};
 ghost use Rattle.dimacs.specs.declared.Absence.{Absence};
 ghost use Rattle.rows.specs.Answers.{ByCount};
 ghost use Rattle.clause.specs.Answers.{answeredOf, ReadsLiterals, Answers};
@@ -10,6 +10,8 @@ use dimacs::CLAUSE_EXPECTED;
 use dimacs::EndOfLine;
 use dimacs::Format;
 use dimacs::GROUP_TOO_BIG;
+use dimacs::HARD;
+use dimacs::HEADER_NOT_EXPECTED;
 use dimacs::Instead;
 use dimacs::LARGEST;
 use dimacs::LINE_END_EXPECTED;
@@ -21,6 +23,7 @@ use dimacs::Refusal;
 use dimacs::Start;
 use dimacs::Uint;
 use dimacs::WEIGHT_TOO_BIG;
+use dimacs::WEIGHT_ZERO;
 use dimacs::refuse;
 use rows::Row;
 
@@ -33,7 +36,7 @@ pub enum Literals {
 
 // What a call for the next clause answers.
 pub enum Next {
-    // A clause: its weight or group, 0 if the format has neither, and how many literals the buffer holds of it.
+    // A clause: its weight or group, 0 if it has neither, and how many literals the buffer holds of it.
     Clause { extra: u64, count: usize },
     // The text is read to its end.
     Ended,
@@ -124,6 +127,17 @@ pub fn no_clause(text: &[u8], at: usize) -> Answered
     instead(absent(text, at, Absence::MayEnd))
 }
 
+// The literals after a weight, a group or the word `h`.
+fn literals_after(text: &[u8], extra: u64, next: usize) -> Start
+    ensures { λ r. ⌜ r ≡ literalsAfter (now (text .entry)) extra next ⌝ }
+{
+    Start::Literals {
+        extra,
+        place: token::non_terminating_linebreaks(text, next),
+        absence: Absence::NoLiterals,
+    }
+}
+
 // How a clause begins by its weight or group, which has a refusal number of its own where it is too big.
 fn start_by(text: &[u8], at: usize, big: u8, absence: Absence, mark: Uint) -> Start
     ensures { λ r. ⌜ r ≡ startBy (now (text .entry)) big absence at mark ⌝ }
@@ -131,12 +145,43 @@ fn start_by(text: &[u8], at: usize, big: u8, absence: Absence, mark: Uint) -> St
     match mark {
         Uint::Missing => Start::Instead(absent(text, at, absence)),
         Uint::TooBig => Start::Instead(Instead::Refused(refuse(text, big, at))),
-        Uint::Value(extra, next) => Start::Literals {
-            extra,
-            place: token::non_terminating_linebreaks(text, next),
-            absence: Absence::NoLiterals,
-        },
+        Uint::Value(extra, next) => literals_after(text, extra, next),
     }
+}
+
+fn is_zero(weight: Uint) -> bool
+    ensures { λ r. ⌜ r ≡ isZero weight ⌝ }
+{
+    match weight {
+        Uint::Missing => false,
+        Uint::TooBig => false,
+        Uint::Value(n, _) => n == 0,
+    }
+}
+
+// How a soft clause of the 2022 form begins by its weight.
+fn soft_by(text: &[u8], at: usize, absence: Absence, weight: Uint) -> Start
+    ensures { λ r. ⌜ r ≡ softBy (now (text .entry)) absence at weight ⌝ }
+{
+    if is_zero(weight) {
+        return Start::Instead(Instead::Refused(refuse(text, WEIGHT_ZERO, at)));
+    }
+    start_by(text, at, WEIGHT_TOO_BIG, absence, weight)
+}
+
+// How a clause of the 2022 form begins.
+fn start_in_2022(text: &[u8], at: usize, absence: Absence) -> Start
+    ensures { λ r. ⌜ r ≡ startIn2022 (now (text .entry)) absence at ⌝ }
+{
+    if token::word(text, at, b"p") != at {
+        return Start::Instead(Instead::Refused(refuse(text, HEADER_NOT_EXPECTED, at)));
+    }
+    let past = token::word(text, at, b"h");
+    if past != at {
+        return literals_after(text, HARD, past);
+    }
+    let weight = numeral::uint(text, at, LARGEST);
+    soft_by(text, at, absence, weight)
 }
 
 // How a clause begins in its format.
@@ -157,6 +202,7 @@ fn start_at(text: &[u8], at: usize, format: Format, groups: u64, absence: Absenc
             let group = numeral::braced_uint(text, at, groups);
             start_by(text, at, GROUP_TOO_BIG, absence, group)
         }
+        Format::Weighted2022 => start_in_2022(text, at, absence),
     }
 }
 

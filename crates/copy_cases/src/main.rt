@@ -256,6 +256,7 @@ fn name(page: &mut [u8], at: usize, format: Format) -> usize
         Format::Plain => lines::word(page, at, b"plain"),
         Format::Weighted => lines::word(page, at, b"weighted"),
         Format::Grouped => lines::word(page, at, b"grouped"),
+        Format::Weighted2022 => lines::word(page, at, b"weighted2022"),
     }
 }
 

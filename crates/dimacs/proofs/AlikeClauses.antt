@@ -2,17 +2,17 @@
 use Prim.Native.Nat.{ℕ, _+_, _≤_, _<_}
 use mathlib.Core.Bool.{Bool, true, false, cond}
 use mathlib.Core.List.{List, []}
-use mathlib.Core.Path.{_≡_, refl}
+use mathlib.Core.Path.{_≡_, refl, ap}
 use native.Mathlib.Omega.{arith}
-use borrow.Author.Tests.{lt-leb, leb-true}
+use borrow.Author.Tests.{lt-leb, leb-true, eqb-true}
 use lib.Dec.{leb, eqb}
 use lib.ListN.{length}
 use lib.IntN.{ℤ}
-use Rattle.dimacs.specs.Bytes.{isNotStop}
-use Rattle.dimacs.specs.Names.{Reason, numberOf, numbered, refusal, largest}
-use Rattle.dimacs.specs.Tokens.{blanks, lines, linebreaks, uintAt, bracedUintAt, endOfLine, lineEnds}
+use Rattle.dimacs.specs.Bytes.{bytes, isNotStop}
+use Rattle.dimacs.specs.Names.{Reason, numberOf, numbered, refusal, largest, hard}
+use Rattle.dimacs.specs.Tokens.{unmoved, blanks, word, lines, linebreaks, uintAt, bracedUintAt, endOfLine, lineEnds}
 use Rattle.dimacs.specs.Rows.{reads}
-use Rattle.dimacs.specs.Clauses.{Literals, nothing, closed, stopped, literals, clause, refused, Answered, says, instead, absent, startBy, startAt, closing, finish, clauseBy, clauseAt}
+use Rattle.dimacs.specs.Clauses.{Literals, nothing, closed, stopped, literals, clause, refused, Answered, says, instead, absent, isZero, startBy, softBy, startIn2022, startAt, closing, finish, clauseBy, clauseAt}
 use Rattle.dimacs.specs.Texts.{nextClause, answerBy, answerAt}
 use Rattle.dimacs.specs.Seen.{wordSeen, answerSeen}
 use Rattle.dimacs.specs.declared.Absence.{Absence}
@@ -22,16 +22,16 @@ use Rattle.dimacs.specs.declared.EndOfLine.the-variants as end
 use Rattle.dimacs.specs.declared.Final.{Final}
 use Rattle.dimacs.specs.declared.Final.the-variants as final
 use Rattle.dimacs.specs.declared.Format.{Format}
-use Rattle.dimacs.specs.declared.Format.the-variants.{Plain, Weighted, Grouped}
+use Rattle.dimacs.specs.declared.Format.the-variants.{Plain, Weighted, Grouped, Weighted2022}
 use Rattle.dimacs.specs.declared.Limits.{Limits}
 use Rattle.dimacs.specs.declared.Progress.{Progress}
 use Rattle.dimacs.specs.declared.Uint.{Uint}
 use Rattle.dimacs.specs.declared.Uint.the-variants as uint
 use Rattle.dimacs.proofs.Tests.{tested}
 use Rattle.dimacs.proofs.Spans.{past-spans, lines-spans, linebreaks-spans, UintMoves, uint-moves, braced-uint-moves}
-use Rattle.dimacs.proofs.WordEnds.{NoLFBefore}
+use Rattle.dimacs.proofs.WordEnds.{word-moved, NoStops, NoLFBefore}
 use Rattle.dimacs.proofs.Alike.{Alike, blanks-same, lines-same, linebreaks-same}
-use Rattle.dimacs.proofs.AlikeWords.{EndSeen, end-same, UintSeen, uint-follows, braced-uint-follows}
+use Rattle.dimacs.proofs.AlikeWords.{word-stands-same, word-same, EndSeen, end-same, UintSeen, zero-same, uint-follows, braced-uint-follows}
 use Rattle.dimacs.proofs.AlikeRows.{LiteralsFollow, literals-same}
 
 module _ {n : ℕ} {s t : List ℕ} (a : Alike n s t) where
@@ -89,6 +89,55 @@ module _ {n : ℕ} {s t : List ℕ} (a : Alike n s t) where
         let l = linebreaks-spans s e in
         (omega (arith, q .0), rw (f (omega (arith, q .0)), linebreaks-same a e (q .0)) (q .1))
 
+    -- What is answered after a weight or group, or for it, is settled no sooner than it is.
+    start-seen : (big : ℕ) (absence : Absence) (at : ℕ) (u : Uint) → answerSeen s (clauseBy s limits room (startBy s big absence at u)) ≤ n → UintSeen n s at u
+    unfolding numbered
+    start-seen big absence at uint.Missing k = absent-same absence at k .0
+    start-seen big absence at uint.TooBig k = k
+    start-seen big absence at (uint.Value extra e) k = omega (arith, from-same extra (linebreaks s e) NoLiterals k .0, linebreaks-spans s e)
+
+    soft-same : (absence : Absence) (at : ℕ) → let u = uintAt s largest at in let u′ = uintAt t largest at in
+        answerSeen s (clauseBy s limits room (softBy s absence at u)) ≤ n
+        → (at + 2 ≤ n) × (clauseBy t limits room (softBy t absence at u′) ≡ clauseBy s limits room (softBy s absence at u))
+    unfolding numbered
+    soft-same absence at k =
+        let u = uintAt s largest at in
+        let u′ = uintAt t largest at in
+        let big = numberOf Reason.weightTooBig in
+        tested (isZero u)
+        (λ y.
+        let l : wordSeen s at ≤ n = rw y at k in
+        (omega (arith, past-spans s at isNotStop), rw (zero-same a largest at l, y)))
+        (λ y.
+        let l : answerSeen s (clauseBy s limits room (startBy s big absence at u)) ≤ n = rw y at k in
+        let q = start-same big absence at u u′ (uint-moves s largest at) (uint-follows a largest at) l in
+        let z = uint-follows a largest at (start-seen big absence at u l) in
+        (q .0, rw (ap isZero z, y) (q .1)))
+
+    start-in-2022-same : (absence : Absence) (at : ℕ) → answerSeen s (clauseBy s limits room (startIn2022 s absence at)) ≤ n
+        → (at + 2 ≤ n) × (clauseBy t limits room (startIn2022 t absence at) ≡ clauseBy s limits room (startIn2022 s absence at))
+    unfolding startIn2022 numbered
+    start-in-2022-same absence at k =
+        let p = bytes "p" in
+        let h = bytes "h" in
+        let e = word s h at in
+        tested (unmoved at (word s p at))
+        (λ y. tested (unmoved at e)
+        (λ z.
+        let q = soft-same absence at (rw (y, z) at k) in
+        (q .0, rw (word-stands-same a p at (refl, tt) (omega (arith, q .0)), y, word-stands-same a h at (refl, tt) (omega (arith, q .0)), z) (q .1)))
+        (λ z.
+        let l : answerSeen s (from s hard (linebreaks s e) NoLiterals) ≤ n = rw (y, z) at k in
+        let q = from-same hard (linebreaks s e) NoLiterals l in
+        let m = linebreaks-spans s e in
+        let o = word-moved s h at z in
+        let w = word-same a h at (refl, tt) (omega (arith, q .0)) (omega (arith, q .0)) in
+        (omega (arith, q .0), rw (word-stands-same a p at (refl, tt) (omega (arith, q .0)), y, w, z, linebreaks-same a e (q .0)) (q .1))))
+        (λ y.
+        let l : wordSeen s at ≤ n = rw y at k in
+        let o = past-spans s at isNotStop in
+        (omega arith, rw (word-stands-same a p at (refl, tt) (omega arith), y)))
+
     clause-at-same : (f : Format) (absence : Absence) (at : ℕ) → answerSeen s (clauseAt s limits room f absence at) ≤ n
         → (at + 2 ≤ n) × (clauseAt t limits room f absence at ≡ clauseAt s limits room f absence at)
     unfolding clauseAt startAt
@@ -98,6 +147,7 @@ module _ {n : ℕ} {s t : List ℕ} (a : Alike n s t) where
     clause-at-same Grouped absence at k =
         let g = limits .groups in
         start-same (numberOf Reason.groupTooBig) absence at (bracedUintAt s g at) (bracedUintAt t g at) (braced-uint-moves s g at) (braced-uint-follows a g at) k
+    clause-at-same Weighted2022 absence at k = start-in-2022-same absence at k
 
     pub next-clause-same : (f : Format) (count at : ℕ) → answerSeen s (nextClause s f limits room count at) ≤ n
         → nextClause t f limits room count at ≡ nextClause s f limits room count at

@@ -1,53 +1,36 @@
 -- Two texts with the same first bytes open in the same way if their opening is settled by them. Assumes nothing.
 use Prim.Native.Nat.{ℕ, _+_, _≤_, _<_}
-use mathlib.Core.Bool.{false}
 use mathlib.Core.List.{List}
 use mathlib.Core.Path.{_≡_, refl}
 use native.Mathlib.Omega.{arith}
-use borrow.Author.Tests.{eqb-true, eqb-false}
-use lib.ListN.{length, drop}
+use borrow.Author.Tests.{eqb-true}
+use lib.ListN.{length}
 use Rattle.dimacs.specs.Bytes.{bytes, isNotStop}
 use Rattle.dimacs.specs.Names.{Reason, numbered, refusal, ceiling, largest}
-use Rattle.dimacs.specs.Tokens.{begins, unmoved, blanks, lines, fixed, wordEnds, word, uintAt, endOfLine, lineEnds}
-use Rattle.dimacs.specs.Header.{formatWord, headerOf, counted, headerEnd, thirdThere, thirdCount, clauseCount, variableCount, afterP, openingOf}
+use Rattle.dimacs.specs.Tokens.{unmoved, blanks, lines, word, uintAt, endOfLine, lineEnds}
+use Rattle.dimacs.specs.Header.{hasHeader, hasThird, formatWord, headerOf, counted, headerEnd, thirdThere, thirdCount, clauseCount, variableCount, afterP, openingOf}
 use Rattle.dimacs.specs.Seen.{wordSeen, openingSeen}
 use Rattle.dimacs.specs.declared.EndOfLine.{EndOfLine}
 use Rattle.dimacs.specs.declared.EndOfLine.the-variants as end
 use Rattle.dimacs.specs.declared.Format.{Format}
-use Rattle.dimacs.specs.declared.Format.the-variants.{Plain, Weighted, Grouped}
+use Rattle.dimacs.specs.declared.Format.the-variants.{Plain, Weighted, Grouped, Weighted2022}
 use Rattle.dimacs.specs.declared.Header.{Header}
 use Rattle.dimacs.specs.declared.Opening.{Opening}
 use Rattle.dimacs.specs.declared.Opening.the-variants as opening
 use Rattle.dimacs.specs.declared.Uint.{Uint}
 use Rattle.dimacs.specs.declared.Uint.the-variants as uint
 use Rattle.dimacs.proofs.Tests.{tested}
-use Rattle.dimacs.proofs.Spans.{past-spans, blanks-spans, lines-spans, UintMoves, uint-moves}
-use Rattle.dimacs.proofs.Words.{fixed-no, fixed-is, word-none, word-is, word-goes-on}
-use Rattle.dimacs.proofs.WordEnds.{NoStops, NoLFBefore, UintEnds, uint-ends}
+use Rattle.dimacs.proofs.Spans.{past-spans, lines-spans, UintMoves, uint-moves}
+use Rattle.dimacs.proofs.WordEnds.{word-moved, NoStops, NoLFBefore, UintEnds, uint-ends}
 use Rattle.dimacs.proofs.Alike.{Alike, blanks-same, lines-same}
 use Rattle.dimacs.proofs.AlikeWords.{word-same, EndSeen, end-same, UintSeen, uint-follows}
-
--- A word that stands is left behind.
-word-moved : (s w : List ℕ) (at : ℕ) → unmoved at (word s w at) ≡ false → at + length w ≤ word s w at
-word-moved s w at h =
-    tested (begins w (drop at s))
-    (λ b.
-    let e = fixed s w at in
-    let z = fixed-is w s at b in
-    tested (unmoved at e) (λ y. absurd (none (word-none w s at e refl (eqb-true e at y))))
-    (λ y. tested (wordEnds s e)
-    (λ o. rw (word-is w s at e refl (eqb-false e at y) o) (omega (arith, blanks-spans s e)))
-    (λ o. absurd (none (word-goes-on w s at e refl (eqb-false e at y) o)))))
-    (λ b. absurd (none (word-none w s at (fixed s w at) refl (fixed-no w s at b))))
-  where
-    none : word s w at ≡ at → ⊥
-    none e = eqb-false (word s w at) at h e
 
 -- No format's word has a stop.
 format-no-stops : (f : Format) → NoStops (formatWord f)
 format-no-stops Plain = (refl, (refl, (refl, tt)))
 format-no-stops Weighted = (refl, (refl, (refl, (refl, tt))))
 format-no-stops Grouped = (refl, (refl, (refl, (refl, tt))))
+format-no-stops Weighted2022 = tt
 
 module _ {n : ℕ} {s t : List ℕ} (a : Alike n s t) where
   -- What follows a place is the same if it is seen, and so is the byte there.
@@ -75,15 +58,10 @@ module _ {n : ℕ} {s t : List ℕ} (a : Alike n s t) where
 
   third-same : (f : Format) (v c at : ℕ) → NoLFBefore s at → Follows at (thirdCount s f v c at) (thirdCount t f v c at)
   unfolding thirdCount thirdThere
-  third-same f v c at o = go f
-    where
-      there : Follows at (thirdThere s v c at) (thirdThere t v c at)
-      there = counted-same _ _ largest at _ _ (λ x e o. header-end-same (headerOf v c x) e o)
-
-      go : (f : Format) → Follows at (thirdCount s f v c at) (thirdCount t f v c at)
-      go Plain = header-end-same (headerOf v c 0) at o
-      go Weighted = there
-      go Grouped = there
+  third-same f v c at o =
+      tested (hasThird f)
+      (λ y. rw y (counted-same _ _ largest at _ _ (λ x e o. header-end-same (headerOf v c x) e o)))
+      (λ y. rw y (header-end-same (headerOf v c 0) at o))
 
   clause-count-same : (f : Format) (v at : ℕ) → Follows at (clauseCount s f v at) (clauseCount t f v at)
   unfolding clauseCount
@@ -116,16 +94,20 @@ module _ {n : ℕ} {s t : List ℕ} (a : Alike n s t) where
       let i = lines s (blanks s 0) in
       let w = bytes "p" in
       let e = word s w i in
-      tested (unmoved i e)
+      tested (hasHeader f)
+      (λ x. tested (unmoved i e)
       (λ y.
-      let l : i + 2 ≤ n = rw y at k in
+      let l : i + 2 ≤ n = rw (x, y) at k in
       let z = eqb-true e i y in
-      rw (place l, word-same a w i (refl, tt) (omega arith) (omega arith), y))
+      rw (x, place l, word-same a w i (refl, tt) (omega arith) (omega arith), y))
       (λ y.
-      let l : openingSeen s (afterP s f e) ≤ n = rw y at k in
+      let l : openingSeen s (afterP s f e) ≤ n = rw (x, y) at k in
       let q = after-p-same f e l in
       let o = word-moved s w i y in
-      rw (place (omega (arith, q .0)), word-same a w i (refl, tt) (omega (arith, q .0)) (q .0), y) (q .1))
+      rw (x, place (omega (arith, q .0)), word-same a w i (refl, tt) (omega (arith, q .0)) (q .0), y) (q .1)))
+      (λ x.
+      let l : i + 2 ≤ n = rw x at k in
+      rw (x, place l))
     where
       place : lines s (blanks s 0) + 2 ≤ n → lines t (blanks t 0) ≡ lines s (blanks s 0)
       place h = rw (blanks-same a 0 (omega (arith, lines-spans s (blanks s 0)))) (lines-same a (blanks s 0) h)

@@ -6,12 +6,13 @@ use mathlib.Core.Bool.{Bool, true, false, cond, not}
 use mathlib.Core.List.{List, [], _∷_}
 use mathlib.Core.Path.{_≡_, refl, ap, sym, _∙_, subst}
 use native.Mathlib.Omega.{arith}
-use borrow.Author.Tests.{ne-eqb, lt-leb, eqb-true, eqb-false, leb-true}
+use borrow.Author.Tests.{eq-eqb, ne-eqb, lt-leb, eqb-true, eqb-false, leb-true}
 use lib.Dec.{leb, eqb}
 use lib.ListN.{length, getD, drop}
 use Rattle.dimacs.specs.Bytes.{isDigit, isStop, isNotStop, LF}
 use Rattle.dimacs.specs.Names.{ceiling}
 use Rattle.dimacs.specs.Tokens.{past, begins, decimal, unmoved, Number, none, found, upTo, upToEitherWay, byteAt, blanks, fixed, wordEnds, word, unsigned, braced, minus, uintAt, bracedUintAt, intAt, lineEnd, endOfLine}
+use Rattle.dimacs.specs.Clauses.{isZero}
 use Rattle.dimacs.specs.Seen.{lineSeen, wordSeen}
 use Rattle.dimacs.specs.declared.EndOfLine.{EndOfLine}
 use Rattle.dimacs.specs.declared.EndOfLine.the-variants as end
@@ -21,7 +22,7 @@ use Rattle.dimacs.specs.declared.Uint.{Uint}
 use Rattle.dimacs.specs.declared.Uint.the-variants as uint
 use Rattle.dimacs.proofs.Tests.{tested, unlike}
 use Rattle.dimacs.proofs.Past.{past-more}
-use Rattle.dimacs.proofs.Spans.{past-spans, line-end-spans, UintMoves, braced-uint-moves}
+use Rattle.dimacs.proofs.Spans.{past-spans, fixed-spans, blanks-spans, line-end-spans, UintMoves, braced-uint-moves}
 use Rattle.dimacs.proofs.Lines.{line-end-LF}
 use Rattle.dimacs.proofs.Words.{fixed-no, fixed-is}
 use Rattle.dimacs.proofs.Numbers.{decimal-more, decimal-stop}
@@ -35,7 +36,7 @@ NumberAlike n (found v e) x = (e′ : ℕ) × (x ≡ found v e′) × (e < n →
 
 abbrev pub UintAlike : ℕ → Uint → Uint → Type 0
 UintAlike n uint.Missing x = x ≡ uint.Missing
-UintAlike n (uint.Value v e) x = e < n → x ≡ uint.Value v e
+UintAlike n (uint.Value v e) x = (e′ : ℕ) × (x ≡ uint.Value v e′) × (e < n → e′ ≡ e)
 UintAlike n uint.TooBig x = x ≡ uint.TooBig
 
 abbrev pub IntAlike : ℕ → Int → Int → Type 0
@@ -48,7 +49,7 @@ up-to-alike : (n limit : ℕ) (x y : Number) → NumberAlike n x y → UintAlike
 up-to-alike n limit none y h = rw h
 up-to-alike n limit (found v e) y h =
     rw (h .1)
-    (tested (leb v limit) (λ k. rw k (λ l. ap (uint.Value v) (h .2 l))) (λ k. rw k refl))
+    (tested (leb v limit) (λ k. rw k (h .0, refl, h .2)) (λ k. rw k refl))
 
 either-way-alike : (n limit : ℕ) (p : Bool) (x y : Number) → NumberAlike n x y → IntAlike n (upToEitherWay limit p x) (upToEitherWay limit p y)
 either-way-alike n limit p none y h = rw h
@@ -97,6 +98,20 @@ module _ {n : ℕ} {s t : List ℕ} (a : Alike n s t) where
         tested (begins w (drop at s))
         (λ e. omega (arith, fixed-is w s at e, begins-word w s at o e, past-spans s (at + length w) isNotStop))
         (λ e. omega (arith, fixed-no w s at e, past-spans s at isNotStop))
+
+    -- The word stands in both or in neither, wherever the blanks after it end.
+    pub word-stands-same : unmoved at (word t w at) ≡ unmoved at (word s w at)
+    unfolding word
+    word-stands-same =
+        let e = fixed s w at in
+        rw (fixed-same, word-ends-same e fixed-before)
+        (tested (unmoved at e) (λ y. rw y)
+        (λ y. tested (wordEnds s e)
+        (λ z.
+        let o = eqb-false e at y in
+        let f = fixed-spans s at w in
+        rw (y, z, ne-eqb (blanks t e) at (λ q. omega (arith, blanks-spans t e)), ne-eqb (blanks s e) at (λ q. omega (arith, blanks-spans s e))))
+        (λ z. rw (y, z))))
 
     pub word-same : word s w at < n → word t w at ≡ word s w at
     unfolding word
@@ -208,13 +223,25 @@ module _ {n : ℕ} {s t : List ℕ} (a : Alike n s t) where
       within true h = h
       within false h = omega arith
 
+  seen-value : {v e : ℕ} {x : Uint} → UintAlike n (uint.Value v e) x → e < n → x ≡ uint.Value v e
+  seen-value h k = h .1 ∙ ap (uint.Value _) (h .2 k)
+
+  -- A weight is 0 in both or in neither if its word is seen.
+  pub zero-same : (limit at : ℕ) → wordSeen s at ≤ n → isZero (uintAt t limit at) ≡ isZero (uintAt s limit at)
+  zero-same limit at h = go (uintAt s limit at) (uint-same a limit at (omega (arith, digits-in-word s at)))
+    where
+      go : (u : Uint) → UintAlike n u (uintAt t limit at) → isZero (uintAt t limit at) ≡ isZero u
+      go uint.Missing k = ap isZero k
+      go (uint.Value v e) k = ap isZero (k .1)
+      go uint.TooBig k = ap isZero k
+
   -- A count, weight or group is the same if it is seen.
   pub uint-follows : (limit at : ℕ) → UintSeen n s at (uintAt s limit at) → uintAt t limit at ≡ uintAt s limit at
   uint-follows limit at = go (uintAt s limit at) refl (uint-ends s limit at)
     where
       go : (u : Uint) → uintAt s limit at ≡ u → UintEnds s at u → UintSeen n s at u → uintAt t limit at ≡ u
       go uint.Missing e f k = subst (λ u. UintAlike n u (uintAt t limit at)) e (uint-same a limit at (omega (arith, digits-in-word s at)))
-      go (uint.Value v c) e f k = subst (λ u. UintAlike n u (uintAt t limit at)) e (uint-same a limit at (omega (arith, f .0))) k
+      go (uint.Value v c) e f k = seen-value (subst (λ u. UintAlike n u (uintAt t limit at)) e (uint-same a limit at (omega (arith, f .0)))) k
       go uint.TooBig e f k = subst (λ u. UintAlike n u (uintAt t limit at)) e (uint-same a limit at (omega (arith, digits-in-word s at)))
 
   pub braced-uint-follows : (limit at : ℕ) → UintSeen n s at (bracedUintAt s limit at) → bracedUintAt t limit at ≡ bracedUintAt s limit at
@@ -228,5 +255,5 @@ module _ {n : ℕ} {s t : List ℕ} (a : Alike n s t) where
 
       go : (u : Uint) → bracedUintAt s limit at ≡ u → UintMoves s at u → GroupEnds s at u → UintSeen n s at u → bracedUintAt t limit at ≡ u
       go uint.Missing e m f k = alike uint.Missing e (omega (arith, past-spans s at isNotStop)) (by-word k)
-      go (uint.Value v c) e m f k = alike (uint.Value v c) e (omega arith) (λ y. omega (arith, f)) k
+      go (uint.Value v c) e m f k = seen-value (alike (uint.Value v c) e (omega arith) (λ y. omega (arith, f))) k
       go uint.TooBig e m f k = alike uint.TooBig e (omega (arith, past-spans s at isNotStop)) (by-word k)

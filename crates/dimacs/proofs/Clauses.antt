@@ -9,13 +9,14 @@ use lib.Dec.{leb, eqb}
 use lib.ListN.{length, length-append}
 use lib.IntN.{ℤ}
 use Rattle.dimacs.specs.Loop.{Step, again, answer}
-use Rattle.dimacs.specs.Names.{Reason, numberOf, numbered, refusal, largest}
-use Rattle.dimacs.specs.Tokens.{unmoved, atEnd, linebreaks, uintAt, bracedUintAt, endOfLine, lineEnds}
+use Rattle.dimacs.specs.Names.{Reason, numberOf, numbered, refusal, largest, hard}
+use Rattle.dimacs.specs.Bytes.{bytes}
+use Rattle.dimacs.specs.Tokens.{unmoved, atEnd, word, linebreaks, uintAt, bracedUintAt, endOfLine, lineEnds}
 use Rattle.dimacs.specs.Rows.{Row, ends, closes, stops, readBy, Reading, reads, row}
-use Rattle.dimacs.specs.Clauses.{Literals, nothing, closed, stopped, onRow, nextRow, literalsFrom, literals, Answer, clause, ended, refused, Answered, says, instead, absent, startBy, startAt, closing, finish, clauseBy, clauseAt}
+use Rattle.dimacs.specs.Clauses.{Literals, nothing, closed, stopped, onRow, nextRow, literalsFrom, literals, Answer, clause, ended, refused, Answered, says, instead, absent, isZero, startBy, softBy, startIn2022, startAt, closing, finish, clauseBy, clauseAt}
 use Rattle.dimacs.specs.declared.Format.{Format}
 use Rattle.dimacs.specs.declared.Limits.{Limits}
-use Rattle.dimacs.specs.declared.Format.the-variants.{Plain, Weighted, Grouped}
+use Rattle.dimacs.specs.declared.Format.the-variants.{Plain, Weighted, Grouped, Weighted2022}
 use Rattle.dimacs.specs.declared.Refusal.{Refusal}
 use Rattle.dimacs.specs.declared.Absence.{Absence}
 use Rattle.dimacs.specs.declared.Absence.the-variants.{MayEnd, NoClause, NoLiterals}
@@ -29,7 +30,7 @@ use Rattle.dimacs.specs.declared.EndOfLine.{EndOfLine}
 use Rattle.dimacs.specs.declared.EndOfLine.the-variants as end
 use Rattle.dimacs.proofs.Loops.{Leads, Falls, after, unrolled, kept}
 use Rattle.dimacs.proofs.Tests.{chosen}
-use Rattle.dimacs.proofs.Spans.{Spans, then-spans, Moves, moves, then-moves, moves-then, Closes, EndCloses, end-closes, linebreaks-spans, UintMoves, uint-moves, braced-uint-moves}
+use Rattle.dimacs.proofs.Spans.{Spans, then-spans, Moves, moves, then-moves, moves-then, Closes, EndCloses, end-closes, word-spans, linebreaks-spans, UintMoves, uint-moves, braced-uint-moves}
 use Rattle.dimacs.proofs.Rows.{RowSpans, row-spans, Grown, row-grows, left}
 
 -- The literals close past a byte of their own, or are refused at a place within reach.
@@ -158,11 +159,26 @@ module _ (s : List ℕ) where
   start-by-placed big absence at uint.TooBig m = omega arith
   start-by-placed big absence at (uint.Value extra e) m = then-spans (omega arith) (linebreaks-spans s e)
 
+  soft-by-placed : (absence : Absence) (at : ℕ) (u : Uint) → UintMoves s at u → StartPlaced s at (softBy s absence at u)
+  unfolding numbered
+  soft-by-placed absence at u m =
+      chosen (StartPlaced s at) (isZero u) (λ _. omega arith) (λ _. start-by-placed (numberOf Reason.weightTooBig) absence at u m)
+
+  start-in-2022-placed : (absence : Absence) (at : ℕ) → StartPlaced s at (startIn2022 s absence at)
+  unfolding startIn2022 numbered
+  start-in-2022-placed absence at =
+      let h = word s (bytes "h") at in
+      chosen (StartPlaced s at) (unmoved at (word s (bytes "p") at))
+      (λ _. chosen (StartPlaced s at) (unmoved at h) (λ _. soft-by-placed absence at (uintAt s largest at) (uint-moves s largest at))
+      (λ _. then-spans (word-spans s (bytes "h") at) (linebreaks-spans s h)))
+      (λ _. omega arith)
+
   start-placed : (f : Format) (groups : ℕ) (absence : Absence) (at : ℕ) → StartPlaced s at (startAt s f groups absence at)
   unfolding startAt
   start-placed Plain groups absence at = omega arith
   start-placed Weighted groups absence at = start-by-placed (numberOf Reason.weightTooBig) absence at (uintAt s largest at) (uint-moves s largest at)
   start-placed Grouped groups absence at = start-by-placed (numberOf Reason.groupTooBig) absence at (bracedUintAt s groups at) (braced-uint-moves s groups at)
+  start-placed Weighted2022 groups absence at = start-in-2022-placed absence at
 
   finish-onward : (extra at : ℕ) (absence : Absence) (l : Literals) → LiteralsSpan s at l → Onward s at (finish s extra at absence l)
   unfolding closing numbered

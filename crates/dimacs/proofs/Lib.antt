@@ -14,6 +14,7 @@ pub mod Buffer
 pub mod Literals
 pub mod Order
 pub mod Texts
+pub mod In2022
 pub mod Logs
 pub mod Writing
 pub mod WordEnds

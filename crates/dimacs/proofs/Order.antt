@@ -2,7 +2,7 @@
 use Prim.Native.Nat.{ℕ, zero, suc, _+_, _-_, _<_}
 use Prim.Native.Char.{code}
 use mathlib.Core.Bool.{Bool, true, false, cond, not, _&&_, _||_}
-use mathlib.Core.List.{List}
+use mathlib.Core.List.{List, []}
 use mathlib.Core.Path.{_≡_, refl, sym, _∙_}
 use mathlib.Core.Logic.{_⊎_, inl, inr}
 use native.Mathlib.Omega.{arith}
@@ -11,11 +11,12 @@ use lib.Dec.{leb, eqb}
 use lib.ListN.{length, getD}
 use Rattle.dimacs.specs.Loop.{Step, again, answer, loop}
 use Rattle.dimacs.specs.Names.{largest}
-use Rattle.dimacs.specs.Tokens.{none, unmoved, byteAt, blanks, lineEnd, nextLine, newline, linePast, commentOrNewline, lines, unsigned, uintAt, bracedUintAt, intAt}
-use Rattle.dimacs.specs.Clauses.{Answered, instead, absent, startAt, clauseAt}
+use Rattle.dimacs.specs.Bytes.{bytes}
+use Rattle.dimacs.specs.Tokens.{none, unmoved, byteAt, blanks, word, lineEnd, nextLine, newline, linePast, commentOrNewline, lines, unsigned, uintAt, bracedUintAt, intAt}
+use Rattle.dimacs.specs.Clauses.{Answered, instead, absent, startIn2022, startAt, clauseAt}
 use Rattle.dimacs.specs.Texts.{nextClause}
 use Rattle.dimacs.specs.declared.Format.{Format}
-use Rattle.dimacs.specs.declared.Format.the-variants.{Plain, Weighted, Grouped}
+use Rattle.dimacs.specs.declared.Format.the-variants.{Plain, Weighted, Grouped, Weighted2022}
 use Rattle.dimacs.specs.declared.Absence.{Absence}
 use Rattle.dimacs.specs.declared.Absence.the-variants.{MayEnd, NoClause}
 use Rattle.dimacs.specs.declared.Limits.{Limits}
@@ -28,6 +29,7 @@ use Rattle.dimacs.proofs.Bytes.{and-false}
 use Rattle.dimacs.proofs.Loops.{after, loop-after}
 use Rattle.dimacs.proofs.Spans.{Spans, standing, moved, blanks-spans, line-end-spans, next-line-spans, newline-spans, lines-step}
 use Rattle.dimacs.proofs.Lines.{line-end-no, newline-no}
+use Rattle.dimacs.proofs.WordEnds.{word-no}
 use Rattle.dimacs.proofs.Numbers.{read-none, read-low, read-high, unsigned-none, minus-no, braced-no, int-missing}
 use Rattle.dimacs.proofs.Literals.{literals-none}
 
@@ -54,30 +56,41 @@ no-uint uint.Missing h = refl
 no-uint (uint.Value n e) h = unlike h
 no-uint uint.TooBig h = unlike h
 
--- Neither a number, a minus nor a brace stands there.
+-- Neither a number, a minus, a brace nor a word `h` or `p` stands there.
 pub record NoNumber (s : List ℕ) (at : ℕ) : Type 0 where
   pub number : unsigned s at ≡ none
   pub minus : getD s at 0 ≡ 45 → ⊥
   pub brace : getD s at 0 ≡ 123 → ⊥
+  pub hard : getD s at 0 ≡ 104 → ⊥
+  pub header : getD s at 0 ≡ 112 → ⊥
 
 module _ (s : List ℕ) (limits : Limits) where
-  -- A clause stands where its first number does, its weight, or its group.
+  -- A clause stands where its first number does, its weight, its group, or `h`; and so does what is answered for `p` in the 2022 form.
   abbrev pub stands : Format → ℕ → Bool
   stands Plain at = isInt (intAt s (limits .literals) at)
   stands Weighted at = isUint (uintAt s largest at)
   stands Grouped at = isUint (bracedUintAt s (limits .groups) at)
+  stands Weighted2022 at = cond (unmoved at (word s (bytes "p") at)) (cond (unmoved at (word s (bytes "h") at)) (isUint (uintAt s largest at)) true) true
 
   pub none-stands : (f : Format) (at : ℕ) → NoNumber s at → stands f at ≡ false
   unfolding uintAt bracedUintAt
   none-stands Plain at b = rw (sym (int-missing s (limits .literals) at at (sym (minus-no s at (b .minus))) (b .number)))
   none-stands Weighted at b = rw (b .number)
   none-stands Grouped at b = rw (braced-no s at (b .brace))
+  none-stands Weighted2022 at b =
+      rw (word-no 112 [] s at (b .header), word-no 104 [] s at (b .hard), eq-eqb at at refl, b .number)
 
   pub no-clause : (room : ℕ) (f : Format) (absence : Absence) (at : ℕ) → stands f at ≡ false → clauseAt s limits room f absence at ≡ instead (absent s absence at)
-  unfolding clauseAt startAt
+  unfolding clauseAt startAt startIn2022
   no-clause room Plain absence at h = rw (literals-none s (limits .literals) room at (no-int (intAt s (limits .literals) at) h))
   no-clause room Weighted absence at h = rw (no-uint (uintAt s largest at) h)
   no-clause room Grouped absence at h = rw (no-uint (bracedUintAt s (limits .groups) at) h)
+  no-clause room Weighted2022 absence at h =
+      tested (unmoved at (word s (bytes "p") at))
+      (λ y. tested (unmoved at (word s (bytes "h") at))
+      (λ z. let u : isUint (uintAt s largest at) ≡ false = rw (y, z) at h in rw (y, z, no-uint (uintAt s largest at) u))
+      (λ z. unlike (rw (y, z) at h)))
+      (λ y. unlike (rw y at h))
 
 module _ (s : List ℕ) where
   -- A comment is `c` and all up to the next line, then blanks.
@@ -111,11 +124,11 @@ OpensLine b = (b ≡ 99) ⊎ ((b ≡ 13) ⊎ (b ≡ 10))
 module _ (s : List ℕ) (at : ℕ) where
   line-no-number : OpensLine (getD s at 0) → NoNumber s at
   line-no-number (inl h) =
-      record { number = unsigned-none (read-high (read-none s at) (standing s at 98 (eq-eqb _ _ h)) (omega arith)) refl; minus = λ e. omega arith; brace = λ e. omega arith }
+      record { number = unsigned-none (read-high (read-none s at) (standing s at 98 (eq-eqb _ _ h)) (omega arith)) refl; minus = λ e. omega arith; brace = λ e. omega arith; hard = λ e. omega arith; header = λ e. omega arith }
   line-no-number (inr (inl h)) =
-      record { number = unsigned-none (read-low (read-none s at) (standing s at 12 (eq-eqb _ _ h)) (omega arith)) refl; minus = λ e. omega arith; brace = λ e. omega arith }
+      record { number = unsigned-none (read-low (read-none s at) (standing s at 12 (eq-eqb _ _ h)) (omega arith)) refl; minus = λ e. omega arith; brace = λ e. omega arith; hard = λ e. omega arith; header = λ e. omega arith }
   line-no-number (inr (inr h)) =
-      record { number = unsigned-none (read-low (read-none s at) (standing s at 9 (eq-eqb _ _ h)) (omega arith)) refl; minus = λ e. omega arith; brace = λ e. omega arith }
+      record { number = unsigned-none (read-low (read-none s at) (standing s at 9 (eq-eqb _ _ h)) (omega arith)) refl; minus = λ e. omega arith; brace = λ e. omega arith; hard = λ e. omega arith; header = λ e. omega arith }
 
   comment-no : (getD s at 0 ≡ 99 → ⊥) → comment s at ≡ at
   unfolding comment

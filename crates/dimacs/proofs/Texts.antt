@@ -10,12 +10,11 @@ use lib.IntN.{ℤ}
 use Rattle.dimacs.specs.Bytes.{bytes}
 use Rattle.dimacs.specs.Names.{Reason, numbered, refusal, ceiling, largest}
 use Rattle.dimacs.specs.Tokens.{unmoved, blanks, lines, word, uintAt, endOfLine, lineEnds}
-use Rattle.dimacs.specs.Header.{formatWord, headerOf, counted, headerEnd, thirdThere, thirdCount, clauseCount, variableCount, afterP, openingOf, unlimited, limitsOf}
+use Rattle.dimacs.specs.Header.{hasHeader, hasThird, formatWord, headerOf, counted, headerEnd, thirdThere, thirdCount, clauseCount, variableCount, afterP, openingOf, unlimited, limitsOf}
 use Rattle.dimacs.specs.Clauses.{Answer, clause, ended, refused, Answered, says, instead, absent, clauseAt}
 use Rattle.dimacs.specs.Texts.{progress, oneMore, nextClause, answerBy, answerAt, finalOf, settledBy, settled, turnBy, turn, answersFrom, begin, textBy, text}
 use Rattle.dimacs.specs.declared.Format.{Format}
 use Rattle.dimacs.specs.declared.Limits.{Limits}
-use Rattle.dimacs.specs.declared.Format.the-variants.{Plain, Weighted, Grouped}
 use Rattle.dimacs.specs.declared.Mode.{Mode}
 use Rattle.dimacs.specs.declared.Header.{Header}
 use Rattle.dimacs.specs.declared.Opening.{Opening}
@@ -61,15 +60,9 @@ module _ (s : List ℕ) where
 
   third-opens : (f : Format) (v c at : ℕ) → v ≤ ceiling → at ≤ length s → Opens s (thirdCount s f v c at)
   unfolding thirdCount thirdThere
-  third-opens f v c at k l = go f
-    where
-      there : Opens s (thirdThere s v c at)
-      there = counted-opens _ _ largest at _ l (λ t e _ m. header-end-opens (headerOf v c t) e k m)
-
-      go : (f : Format) → Opens s (thirdCount s f v c at)
-      go Plain = header-end-opens (headerOf v c 0) at k l
-      go Weighted = there
-      go Grouped = there
+  third-opens f v c at k l =
+      chosen (Opens s) (hasThird f) (λ _. counted-opens _ _ largest at _ l (λ t e _ m. header-end-opens (headerOf v c t) e k m))
+      (λ _. header-end-opens (headerOf v c 0) at k l)
 
   clause-count-opens : (f : Format) (v at : ℕ) → v ≤ ceiling → at ≤ length s → Opens s (clauseCount s f v at)
   unfolding clauseCount
@@ -88,8 +81,10 @@ module _ (s : List ℕ) where
       let h = then-spans (blanks-spans s 0) (lines-spans s (blanks s 0)) in
       let k = then-spans h (word-spans s (bytes "p") a) in
       let l = then-spans k (word-spans s (formatWord f) p) in
-      chosen (Opens s) (unmoved a p) (λ _. omega arith)
-      (λ _. chosen (Opens s) (unmoved p e) (λ _. omega arith) (λ _. variable-count-opens f e (omega arith)))
+      chosen (Opens s) (hasHeader f)
+      (λ _. chosen (Opens s) (unmoved a p) (λ _. omega arith)
+      (λ _. chosen (Opens s) (unmoved p e) (λ _. omega arith) (λ _. variable-count-opens f e (omega arith))))
+      (λ _. omega arith)
 
 -- So many clauses, and then the end or a refusal.
 pub data Finishes : ℕ → List Answer → Type 0 where

@@ -12,7 +12,7 @@ use lib.ListN.{length, getD, drop}
 use lib.Seq.{drop-cons}
 use Rattle.dimacs.specs.Bytes.{LF, CR, isBlank, isDigit, isStop, isNotStop}
 use Rattle.dimacs.specs.Names.{ceiling}
-use Rattle.dimacs.specs.Tokens.{past, unmoved, Number, none, found, upTo, upToEitherWay, byteAt, blanks, lineEnd, newline, linebreaks, wordEnds, decimal, unsigned, braced, minus, uintAt, bracedUintAt, intAt, begins}
+use Rattle.dimacs.specs.Tokens.{past, unmoved, Number, none, found, upTo, upToEitherWay, byteAt, blanks, lineEnd, newline, linebreaks, fixed, wordEnds, word, decimal, unsigned, braced, minus, uintAt, bracedUintAt, intAt, begins}
 use Rattle.dimacs.specs.declared.Int.{Int}
 use Rattle.dimacs.specs.declared.Int.the-variants as int
 use Rattle.dimacs.specs.declared.Uint.{Uint}
@@ -22,8 +22,24 @@ use Rattle.dimacs.proofs.Bytes.{below-digit}
 use Rattle.dimacs.proofs.Past.{past-more, past-stop, past-end}
 use Rattle.dimacs.proofs.Spans.{past-spans, blanks-spans, standing}
 use Rattle.dimacs.proofs.Lines.{line-end-no, newline-no, linebreaks-no}
-use Rattle.dimacs.proofs.Words.{begins-short}
+use Rattle.dimacs.proofs.Words.{begins-differs, begins-short, fixed-no, fixed-is, word-none, word-is, word-goes-on}
 use Rattle.dimacs.proofs.Numbers.{minus-is, minus-no}
+
+-- A word that stands is left behind.
+pub word-moved : (s w : List ℕ) (at : ℕ) → unmoved at (word s w at) ≡ false → at + length w ≤ word s w at
+word-moved s w at h =
+    tested (begins w (drop at s))
+    (λ b.
+    let e = fixed s w at in
+    let z = fixed-is w s at b in
+    tested (unmoved at e) (λ y. absurd (none (word-none w s at e refl (eqb-true e at y))))
+    (λ y. tested (wordEnds s e)
+    (λ o. rw (word-is w s at e refl (eqb-false e at y) o) (omega (arith, blanks-spans s e)))
+    (λ o. absurd (none (word-goes-on w s at e refl (eqb-false e at y) o)))))
+    (λ b. absurd (none (word-none w s at (fixed s w at) refl (fixed-no w s at b))))
+  where
+    none : word s w at ≡ at → ⊥
+    none e = eqb-false (word s w at) at h e
 
 -- No byte of a word stops words.
 abbrev pub NoStops : List ℕ → Type 0
@@ -33,6 +49,15 @@ NoStops (b ∷ w) = (isStop b ≡ false) × NoStops w
 pub begins-cons : (b : ℕ) (w s : List ℕ) (i : ℕ) → i < length s → begins (b ∷ w) (drop i s) ≡ eqb b (getD s i 0) && begins w (drop (i + 1) s)
 unfolding begins
 begins-cons b w s i h = rw (add-one i, drop-cons s i 0 h)
+
+-- A word does not stand where another byte does.
+pub word-no : (b : ℕ) (w s : List ℕ) (at : ℕ) → (getD s at 0 ≡ b → ⊥) → word s (b ∷ w) at ≡ at
+word-no b w s at h =
+    word-none (b ∷ w) s at (fixed s (b ∷ w) at) refl
+    (fixed-no (b ∷ w) s at
+    (tested (leb (length s) at)
+    (λ e. begins-short (b ∷ w) s 0 at (omega arith) (leb-true (length s) at e))
+    (λ e. begins-differs (b ∷ w) s 0 at (omega arith) (leb-false (length s) at e) h)))
 
 -- A word goes on after the bytes with which it begins.
 pub begins-word : (w s : List ℕ) (at : ℕ) → NoStops w → begins w (drop at s) ≡ true → past isNotStop s (at + length w) ≡ past isNotStop s at

@@ -1,9 +1,10 @@
 -- Words, byte by byte and case by case. Assumes nothing.
 use Prim.Native.Nat.{ℕ, _+_, _≤_, _<_}
 use mathlib.Core.Bool.{Bool, true, false}
-use mathlib.Core.List.{List}
+use mathlib.Core.List.{List, []}
 use mathlib.Core.Path.{_≡_, sym}
 use native.Mathlib.Numerals.{add-one}
+use native.Mathlib.Omega.{arith}
 use borrow.Author.Tests.{eq-eqb, ne-eqb, le-leb, lt-leb}
 use lib.ListN.{length, getD, drop, drop-of-length-le}
 use lib.Seq.{drop-cons}
@@ -35,6 +36,11 @@ module _ (w s : List ℕ) (k i : ℕ) where
   pub begins-all : length w ≤ k → begins (drop k w) (drop i s) ≡ true
   unfolding begins
   begins-all h = rw (drop-of-length-le w h)
+
+-- A word of no bytes does not stand.
+pub no-word : (s : List ℕ) (at : ℕ) → word s [] at ≡ at
+unfolding word fixed begins
+no-word s at = rw (eq-eqb (at + 0) at (omega arith))
 
 module _ (w s : List ℕ) (at : ℕ) where
   pub fixed-no : begins w (drop at s) ≡ false → fixed s w at ≡ at

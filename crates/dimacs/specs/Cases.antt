@@ -11,13 +11,13 @@ use Rattle.dimacs.specs.Names.{numbered}
 use Rattle.dimacs.specs.Tokens.{run, past, begins, decimal, lineEnd, nextLine, endOfLine, fixed, wordEnds, word, strictComment, newline, linePast, commentOrNewline, lines, linebreaks, unsigned, braced, minus, uintAt, bracedUintAt, intAt, stoppedAt}
 use Rattle.dimacs.specs.Header.{headerOf, headerEnd, thirdThere, thirdCount, clauseCount, variableCount, afterP, openingOf}
 use Rattle.dimacs.specs.Rows.{nextInt, row}
-use Rattle.dimacs.specs.Clauses.{nextRow, literalsFrom, literals, Answer, clause, ended, refused, absent, startAt, closing, clauseAt}
+use Rattle.dimacs.specs.Clauses.{nextRow, literalsFrom, literals, Answer, clause, ended, refused, absent, startIn2022, startAt, closing, clauseAt}
 use Rattle.dimacs.specs.Texts.{nextClause, answerAt, turn, answersFrom, Text, text}
 use Rattle.dimacs.specs.Logs.{LogAnswer, accepted, refusedLog, valueLine, solutionLine, logLine, logFrom, log}
-use Rattle.dimacs.specs.Writing.{Written, written, unwritten, nextDigit, digits, items, headerLine, clauseLine, writeHeader, writeClause}
+use Rattle.dimacs.specs.Writing.{Written, written, unwritten, nextDigit, digits, items, headerLine, clauseLine, writeHeader, writeLine, writeClause, writeHardClause}
 use Rattle.dimacs.specs.Seen.{answersSeen, textSeen}
 use Rattle.dimacs.specs.declared.Format.{Format}
-use Rattle.dimacs.specs.declared.Format.the-variants.{Plain, Weighted, Grouped}
+use Rattle.dimacs.specs.declared.Format.the-variants.{Plain, Weighted, Grouped, Weighted2022}
 use Rattle.dimacs.specs.declared.Mode.{Mode}
 use Rattle.dimacs.specs.declared.Mode.the-variants.{Strict, Lenient}
 use Rattle.dimacs.specs.declared.Opening.{Opening}
@@ -73,7 +73,7 @@ linesBy Log m room s = logLines (log s m room)
 
 -- What the definition says of a case's text.
 pub linesOf : Case → List Line
-unfolding loop said numbered run past begins decimal lineEnd nextLine endOfLine fixed wordEnds word strictComment newline linePast commentOrNewline lines linebreaks unsigned braced minus uintAt bracedUintAt intAt headerEnd thirdThere thirdCount clauseCount variableCount afterP openingOf nextInt row nextRow literalsFrom literals absent startAt closing clauseAt nextClause answerAt turn answersFrom text valueLine solutionLine logLine logFrom log
+unfolding loop said numbered run past begins decimal lineEnd nextLine endOfLine fixed wordEnds word strictComment newline linePast commentOrNewline lines linebreaks unsigned braced minus uintAt bracedUintAt intAt headerEnd thirdThere thirdCount clauseCount variableCount afterP openingOf nextInt row nextRow literalsFrom literals absent startIn2022 startAt closing clauseAt nextClause answerAt turn answersFrom text valueLine solutionLine logLine logFrom log
 linesOf c = linesBy (c .kind) (c .mode) (c .room) (bytes (c .quoted))
 
 -- The definition says of every text in the table what is expected.
@@ -91,6 +91,9 @@ weighted = case (Formula Weighted) Strict
 
 abbrev grouped : String → List Line → Case
 grouped = case (Formula Grouped) Strict
+
+abbrev weighted2022 : Mode → String → List Line → Case
+weighted2022 = case (Formula Weighted2022)
 
 abbrev strictLog : String → List Line → Case
 strictLog = case Log Strict
@@ -189,6 +192,37 @@ pub readings-hold : Hold readings
 unfolding linesOf
 readings-hold = refl
 
+-- Texts of the 2022 form, which both modes read alike.
+abbrev pub in2022 : Mode → List Case
+in2022 m =
+    weighted2022 m "h 1 0" (NoHeader ∷ Clause 0 (pos 1 ∷ []) ∷ End ∷ [])
+    ∷ weighted2022 m "h\n1 0" (NoHeader ∷ Clause 0 (pos 1 ∷ []) ∷ End ∷ [])
+    ∷ weighted2022 m "h 0" (NoHeader ∷ Clause 0 [] ∷ End ∷ [])
+    ∷ weighted2022 m "h" (NoHeader ∷ Refused 8 1 0 ∷ [])
+    ∷ weighted2022 m "h1 0" (NoHeader ∷ Refused 9 0 0 ∷ [])
+    ∷ weighted2022 m "5 1 -2 0" (NoHeader ∷ Clause 5 (pos 1 ∷ negsuc 1 ∷ []) ∷ End ∷ [])
+    ∷ weighted2022 m "0 1 0" (NoHeader ∷ Refused 32 0 0 ∷ [])
+    ∷ weighted2022 m "000 1 0" (NoHeader ∷ Refused 32 0 0 ∷ [])
+    ∷ weighted2022 m "0" (NoHeader ∷ Refused 32 0 0 ∷ [])
+    ∷ weighted2022 m "18446744073709551615 1 0" (NoHeader ∷ Clause 18446744073709551615 (pos 1 ∷ []) ∷ End ∷ [])
+    ∷ weighted2022 m "18446744073709551616 1 0" (NoHeader ∷ Refused 13 0 0 ∷ [])
+    ∷ weighted2022 m "-0 1 0" (NoHeader ∷ Refused 9 0 0 ∷ [])
+    ∷ weighted2022 m "+5 1 0" (NoHeader ∷ Refused 9 0 0 ∷ [])
+    ∷ weighted2022 m "0x 1 0" (NoHeader ∷ Refused 9 0 0 ∷ [])
+    ∷ weighted2022 m "p wcnf 1 1 1\n" (NoHeader ∷ Refused 33 0 0 ∷ [])
+    ∷ weighted2022 m "c x\np" (NoHeader ∷ Refused 33 4 0 ∷ [])
+    ∷ weighted2022 m "pcnf" (NoHeader ∷ Refused 9 0 0 ∷ [])
+    ∷ weighted2022 m "1 1 0\np" (NoHeader ∷ Clause 1 (pos 1 ∷ []) ∷ Refused 33 6 0 ∷ [])
+    ∷ weighted2022 m "7\nc x\n1 0" (NoHeader ∷ Clause 7 (pos 1 ∷ []) ∷ End ∷ [])
+    ∷ weighted2022 m "7 1 0 h 2 0" (NoHeader ∷ Refused 5 6 1 ∷ [])
+    ∷ weighted2022 m "h 2147483648 0" (NoHeader ∷ Refused 15 2 0 ∷ [])
+    ∷ weighted2022 m "" (NoHeader ∷ End ∷ [])
+    ∷ []
+
+pub in-2022-hold : (m : Mode) → Hold (in2022 m)
+unfolding linesOf
+in-2022-hold m = refl
+
 -- The word a reader stopped at: a text, a place and the word there.
 pub record Stop : Type 0 where
   pub quoted : String
@@ -236,7 +270,7 @@ settling =
     ∷ []
 
 pub settling-holds : map (λ c. textSeen Plain Strict 1024 (c .first) (bytes (c .quoted))) settling ≡ map (λ c. c .settled-by) settling
-unfolding loop numbered run past begins decimal lineEnd nextLine endOfLine fixed wordEnds word newline linePast commentOrNewline lines linebreaks unsigned minus uintAt intAt headerEnd thirdThere thirdCount clauseCount variableCount afterP openingOf nextInt row nextRow literalsFrom literals absent startAt closing clauseAt nextClause answerAt answersSeen
+unfolding loop numbered run past begins decimal lineEnd nextLine endOfLine fixed wordEnds word newline linePast commentOrNewline lines linebreaks unsigned minus uintAt intAt headerEnd thirdThere thirdCount clauseCount variableCount afterP openingOf nextInt row nextRow literalsFrom literals absent startIn2022 startAt closing clauseAt nextClause answerAt answersSeen
 settling-holds = refl
 
 -- What a writer is asked, and what it comes to.
@@ -264,8 +298,17 @@ writing =
     ∷ writesNothing (writeClause Plain 0 (pos 1 ∷ pos 0 ∷ []) 0) 27 1
     ∷ writesNothing (writeClause Plain 0 (negsuc 2147483647 ∷ pos 0 ∷ []) 0) 27 0
     ∷ writesNothing (writeClause Plain 0 (pos 1 ∷ []) 3) 28 0
+    ∷ writes (writeClause Weighted2022 7 (pos 1 ∷ []) 6) "7 1 0\n"
+    ∷ writes (writeHardClause Weighted2022 (pos 1 ∷ negsuc 1 ∷ []) 9) "h 1 -2 0\n"
+    ∷ writes (writeHardClause Weighted2022 [] 4) "h 0\n"
+    ∷ writesNothing (writeClause Weighted2022 0 (pos 0 ∷ []) 0) 32 0
+    ∷ writesNothing (writeClause Weighted2022 1 (pos 0 ∷ []) 0) 27 0
+    ∷ writesNothing (writeHardClause Weighted2022 (pos 1 ∷ pos 0 ∷ []) 0) 27 1
+    ∷ writesNothing (writeHardClause Weighted2022 (pos 1 ∷ []) 5) 28 0
+    ∷ writesNothing (writeHardClause Weighted (pos 1 ∷ pos 0 ∷ []) 0) 26 0
+    ∷ writesNothing (writeHeader Weighted2022 (headerOf 2147483648 0 0) 0) 26 0
     ∷ []
 
 pub writing-holds : map (λ w. w .asked) writing ≡ map (λ w. w .comes-to) writing
-unfolding loop run nextDigit digits items headerLine clauseLine writeHeader writeClause
+unfolding loop run nextDigit digits items headerLine clauseLine writeHeader writeLine writeClause writeHardClause
 writing-holds = refl

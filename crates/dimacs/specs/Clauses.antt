@@ -1,17 +1,18 @@
 -- A clause of each format.
 use Prim.Native.Nat.{ℕ, suc}
-use mathlib.Core.Bool.{cond}
+use mathlib.Core.Bool.{Bool, true, false, cond}
 use mathlib.Core.List.{List, []}
 use lib.ListN.{length}
 use lib.Dec.{eqb}
 use lib.IntN.{ℤ}
 use Rattle.dimacs.specs.Loop.{Step, again, answer, loop}
-use Rattle.dimacs.specs.Names.{Reason, numberOf, numbered, refusal, largest}
-use Rattle.dimacs.specs.Tokens.{unmoved, atEnd, linebreaks, uintAt, bracedUintAt, endOfLine, lineEnds}
+use Rattle.dimacs.specs.Names.{Reason, numberOf, numbered, refusal, largest, hard}
+use Rattle.dimacs.specs.Bytes.{bytes}
+use Rattle.dimacs.specs.Tokens.{unmoved, atEnd, word, linebreaks, uintAt, bracedUintAt, endOfLine, lineEnds}
 use Rattle.dimacs.specs.Rows.{Row, ends, closes, stops, Reading, reads, row}
 use Rattle.dimacs.specs.declared.Format.{Format}
 use Rattle.dimacs.specs.declared.Limits.{Limits}
-use Rattle.dimacs.specs.declared.Format.the-variants.{Plain, Weighted, Grouped}
+use Rattle.dimacs.specs.declared.Format.the-variants.{Plain, Weighted, Grouped, Weighted2022}
 use Rattle.dimacs.specs.declared.Refusal.{Refusal}
 use Rattle.dimacs.specs.declared.Absence.{Absence}
 use Rattle.dimacs.specs.declared.Absence.the-variants.{MayEnd, NoClause, NoLiterals}
@@ -52,7 +53,7 @@ module _ (s : List ℕ) (limit room : ℕ) where
   unfoldable pub literals : ℕ → Literals
   literals at = literalsFrom (reads at [])
 
--- What a call for the next clause answers: a clause's weight or group, 0 if the format has neither, and its literals; the end; or a refusal, with
+-- What a call for the next clause answers: a clause's weight or group, 0 if it has neither, and its literals; the end; or a refusal, with
 -- the literals of the unfinished clause.
 pub data Answer : Type 0 where
   clause : ℕ → List ℤ → Answer
@@ -73,6 +74,19 @@ abbrev pub instead : Instead → Answered
 instead (Ended at) = says ended at
 instead (Refused r) = says (refused r []) (r .place)
 
+-- Clauses of the 2022 form are hard or soft.
+abbrev pub hasHard : Format → Bool
+hasHard Plain = false
+hasHard Weighted = false
+hasHard Grouped = false
+hasHard Weighted2022 = true
+
+-- A weight of 0.
+abbrev pub isZero : Uint → Bool
+isZero uint.Missing = false
+isZero (uint.Value n next) = eqb n 0
+isZero uint.TooBig = false
+
 module _ (s : List ℕ) where
   -- Where no number stands: the end of the text if it may come there, else a refusal.
   unfoldable pub absent : Absence → ℕ → Instead
@@ -80,18 +94,36 @@ module _ (s : List ℕ) where
   absent NoClause at = Refused (refusal s Reason.clauseExpected at)
   absent NoLiterals at = Refused (refusal s Reason.literalsExpected at)
 
-  -- By the weight or group at a place, which has a refusal number of its own where it is too big. After it line ends and comments may come; then
-  -- literals must.
+  -- After a weight, a group or the word `h`, line ends and comments may come; then literals must.
+  abbrev pub literalsAfter : ℕ → ℕ → Start
+  literalsAfter extra next = start.Literals extra (linebreaks s next) NoLiterals
+
+  -- By the weight or group at a place, which has a refusal number of its own where it is too big.
   abbrev pub startBy : ℕ → Absence → ℕ → Uint → Start
   startBy big absence at uint.Missing = start.Instead (absent absence at)
   startBy big absence at uint.TooBig = start.Instead (Refused (numbered s big at))
-  startBy big absence at (uint.Value extra next) = start.Literals extra (linebreaks s next) NoLiterals
+  startBy big absence at (uint.Value extra next) = literalsAfter extra next
 
-  -- How a clause begins: a plain one with its first number, others with a weight or with a group up to its limit.
+  -- By the weight of a soft clause of the 2022 form, which is not 0.
+  abbrev pub softBy : Absence → ℕ → Uint → Start
+  softBy absence at weight =
+      cond (isZero weight) (start.Instead (Refused (refusal s Reason.weightZero at))) (startBy (numberOf Reason.weightTooBig) absence at weight)
+
+  -- How a clause of the 2022 form begins: a hard one with the word `h`, a soft one with its weight. The word `p` has a refusal of its own.
+  unfoldable pub startIn2022 : Absence → ℕ → Start
+  startIn2022 absence at =
+      let p = word s (bytes "p") at in
+      let h = word s (bytes "h") at in
+      cond (unmoved at p)
+      (cond (unmoved at h) (softBy absence at (uintAt s largest at)) (literalsAfter hard h))
+      (start.Instead (Refused (refusal s Reason.headerNotExpected at)))
+
+  -- How a clause begins: a plain one with its first number, others with a weight or with a group up to its limit, or as in the 2022 form.
   unfoldable pub startAt : Format → ℕ → Absence → ℕ → Start
   startAt Plain groups absence at = start.Literals 0 at absence
   startAt Weighted groups absence at = startBy (numberOf Reason.weightTooBig) absence at (uintAt s largest at)
   startAt Grouped groups absence at = startBy (numberOf Reason.groupTooBig) absence at (bracedUintAt s groups at)
+  startAt Weighted2022 groups absence at = startIn2022 absence at
 
   -- After the 0, a line end or the end of the text must stand on its line.
   unfoldable pub closing : ℕ → ℕ → List ℤ → Answered

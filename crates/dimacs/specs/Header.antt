@@ -1,13 +1,13 @@
 -- The opening of a text of clauses: its header, if it has one, and the limits that the header sets.
 use Prim.Native.Nat.{ℕ}
-use mathlib.Core.Bool.{cond}
-use mathlib.Core.List.{List}
+use mathlib.Core.Bool.{Bool, true, false, cond}
+use mathlib.Core.List.{List, []}
 use lib.Dec.{eqb}
 use Rattle.dimacs.specs.Bytes.{bytes}
 use Rattle.dimacs.specs.Names.{Reason, refusal, ceiling, largest}
 use Rattle.dimacs.specs.Tokens.{unmoved, blanks, lines, word, uintAt, endOfLine, lineEnds}
 use Rattle.dimacs.specs.declared.Format.{Format}
-use Rattle.dimacs.specs.declared.Format.the-variants.{Plain, Weighted, Grouped}
+use Rattle.dimacs.specs.declared.Format.the-variants.{Plain, Weighted, Grouped, Weighted2022}
 use Rattle.dimacs.specs.declared.Mode.{Mode}
 use Rattle.dimacs.specs.declared.Mode.the-variants.{Strict, Lenient}
 use Rattle.dimacs.specs.declared.Opening.{Opening}
@@ -17,11 +17,26 @@ use Rattle.dimacs.specs.declared.Limits.{Limits}
 use Rattle.dimacs.specs.declared.Uint.{Uint}
 use Rattle.dimacs.specs.declared.Uint.the-variants as uint
 
--- The word of a format in its header.
+-- A text of the 2022 form has no header.
+abbrev pub hasHeader : Format → Bool
+hasHeader Plain = true
+hasHeader Weighted = true
+hasHeader Grouped = true
+hasHeader Weighted2022 = false
+
+-- The third count of a header is the top weight of a weighted text, the count of groups of a grouped one.
+abbrev pub hasThird : Format → Bool
+hasThird Plain = false
+hasThird Weighted = true
+hasThird Grouped = true
+hasThird Weighted2022 = false
+
+-- The word of a format in its header, of no bytes where there is no header.
 abbrev pub formatWord : Format → List ℕ
 formatWord Plain = bytes "cnf"
 formatWord Weighted = bytes "wcnf"
 formatWord Grouped = bytes "gcnf"
+formatWord Weighted2022 = []
 
 -- A header by its three counts.
 abbrev pub headerOf : ℕ → ℕ → ℕ → Header
@@ -42,11 +57,9 @@ module _ (s : List ℕ) where
   unfoldable pub thirdThere : ℕ → ℕ → ℕ → Opening
   thirdThere v c at = counted Reason.thirdCountExpected Reason.thirdCountTooBig at (λ t. headerEnd (headerOf v c t)) (uintAt s largest at)
 
-  -- The top weight of a weighted text, the count of groups of a grouped one. A plain one has no third count.
+  -- The third count, if the format has one, and what follows.
   unfoldable pub thirdCount : Format → ℕ → ℕ → ℕ → Opening
-  thirdCount Plain v c = headerEnd (headerOf v c 0)
-  thirdCount Weighted v c = thirdThere v c
-  thirdCount Grouped v c = thirdThere v c
+  thirdCount f v c at = cond (hasThird f) (thirdThere v c at) (headerEnd (headerOf v c 0) at)
 
   -- The count of clauses, and what follows.
   unfoldable pub clauseCount : Format → ℕ → ℕ → Opening
@@ -62,12 +75,12 @@ module _ (s : List ℕ) where
       let e = word s (formatWord f) at in
       cond (unmoved at e) (opening.Refused (refusal s Reason.formatWordExpected at)) (variableCount f e)
 
-  -- Blanks, comments and line ends are skipped. If the word `p` follows, the header must.
+  -- Blanks, comments and line ends are skipped. If the word `p` follows, the header must, in a format that has one.
   unfoldable pub openingOf : Format → Opening
   openingOf f =
       let at = lines s (blanks s 0) in
       let e = word s (bytes "p") at in
-      cond (unmoved at e) (opening.NoHeader at) (afterP f e)
+      cond (hasHeader f) (cond (unmoved at e) (opening.NoHeader at) (afterP f e)) (opening.NoHeader at)
 
 -- The limits where no count applies.
 abbrev pub unlimited : Limits
@@ -82,6 +95,7 @@ abbrev pub groupLimit : Format → ℕ → ℕ
 groupLimit Plain t = largest
 groupLimit Weighted t = largest
 groupLimit Grouped t = specified t largest
+groupLimit Weighted2022 t = largest
 
 -- The limits that a header sets. The lenient mode applies none of its counts.
 abbrev pub limitsOf : Format → Mode → Header → Limits

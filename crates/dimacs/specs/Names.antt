@@ -4,7 +4,7 @@ use mathlib.Core.List.{List}
 use mathlib.Core.Bool.{cond}
 use lib.Dec.{eqb}
 use Rattle.dimacs.specs.declared.Format.{Format}
-use Rattle.dimacs.specs.declared.Format.the-variants.{Plain, Weighted, Grouped}
+use Rattle.dimacs.specs.declared.Format.the-variants.{Plain, Weighted, Grouped, Weighted2022}
 use Rattle.dimacs.specs.declared.Mode.{Mode}
 use Rattle.dimacs.specs.declared.Mode.the-variants.{Strict, Lenient}
 use Rattle.dimacs.specs.declared.Kind.{Kind}
@@ -27,6 +27,10 @@ longestWord = 60
 abbrev pub ownRoom : ℕ
 ownRoom = 1024
 
+-- The weight with which a hard clause of the 2022 form is answered. No soft one has it.
+abbrev pub hard : ℕ
+hard = 0
+
 -- The number that names a log.
 abbrev pub logFormat : ℕ
 logFormat = 3
@@ -38,7 +42,8 @@ places = 32
 -- What the number of a format names in a mode.
 unfoldable pub kindIn : Mode → ℕ → Kind
 kindIn m f =
-    cond (eqb f 0) (Clauses Plain m) (cond (eqb f 1) (Clauses Weighted m) (cond (eqb f 2) (Clauses Grouped m) (cond (eqb f logFormat) (Log m) Unknown)))
+    cond (eqb f 0) (Clauses Plain m) (cond (eqb f 1) (Clauses Weighted m) (cond (eqb f 2) (Clauses Grouped m)
+    (cond (eqb f logFormat) (Log m) (cond (eqb f 4) (Clauses Weighted2022 m) Unknown))))
 
 -- What the numbers of a format and a mode name.
 unfoldable pub kindOf : ℕ → ℕ → Kind
@@ -50,7 +55,7 @@ pub data Reason : Type 0 where
   literalExpected literalExpectedAfterLines literalsExpected clauseExpected variableCountTooBig : Reason
   clauseCountTooBig thirdCountTooBig weightTooBig groupTooBig literalTooBig bufferFull solutionExpected : Reason
   logLineExpected assignmentOpen trayFull partOutsideArea bufferTooShort nothingWaits ticketNotWaiting : Reason
-  ticketsUsedUp formatOrModeUnknown literalNotWritable outputTooShort : Reason
+  ticketsUsedUp formatOrModeUnknown literalNotWritable outputTooShort weightZero headerNotExpected : Reason
 
 -- The refusal numbers.
 abbrev pub numberOf : Reason → ℕ
@@ -61,7 +66,7 @@ numberOf thirdCountExpected = 4  -- third count expected
 numberOf lineEndExpected = 5  -- line end expected
 numberOf literalExpected = 6  -- literal or 0 expected on a literal's line
 numberOf literalExpectedAfterLines = 7  -- the same after line ends
-numberOf literalsExpected = 8  -- literals expected after weight or group
+numberOf literalsExpected = 8  -- literals expected after weight, group or `h`
 numberOf clauseExpected = 9  -- no clause, comment, line end or permitted end
 numberOf variableCountTooBig = 10  -- variable count above the ceiling
 numberOf clauseCountTooBig = 11  -- clause count above 64 bits
@@ -82,6 +87,8 @@ numberOf ticketsUsedUp = 25  -- tray: 2^64 - 1 tickets given
 numberOf formatOrModeUnknown = 26  -- unknown format or mode number, or a format the call does not take
 numberOf literalNotWritable = 27  -- writer: literal is 0 or -2,147,483,648
 numberOf outputTooShort = 28  -- writer: output too short
+numberOf weightZero = 32  -- 2022 form: weight zero
+numberOf headerNotExpected = 33  -- 2022 form: the word `p` where a clause may start
 
 -- A refusal of the text s by its number, at a place in it.
 unfoldable pub numbered : List ℕ → ℕ → ℕ → Refusal

@@ -4,15 +4,16 @@ use Prim.Native.Char.{code}
 use mathlib.Core.Bool.{Bool, cond, _&&_}
 use mathlib.Core.List.{List, [], _∷_, _++_}
 use lib.ListN.{length}
-use lib.Dec.{ltb, leb}
+use lib.Dec.{ltb, leb, eqb}
 use lib.IntN.{ℤ, pos, negsuc, natAbs}
 use Rattle.dimacs.specs.Loop.{Step, again, answer, loop}
 use Rattle.dimacs.specs.Bytes.{bytes}
-use Rattle.dimacs.specs.Names.{Reason, callRefusal, ceiling}
+use Rattle.dimacs.specs.Names.{Reason, callRefusal, ceiling, hard}
 use Rattle.dimacs.specs.Tokens.{run}
-use Rattle.dimacs.specs.Header.{formatWord}
+use Rattle.dimacs.specs.Header.{hasHeader, hasThird, formatWord}
+use Rattle.dimacs.specs.Clauses.{hasHard}
 use Rattle.dimacs.specs.declared.Format.{Format}
-use Rattle.dimacs.specs.declared.Format.the-variants.{Plain, Weighted, Grouped}
+use Rattle.dimacs.specs.declared.Format.the-variants.{Plain, Weighted, Grouped, Weighted2022}
 use Rattle.dimacs.specs.declared.Header.{Header}
 use Rattle.dimacs.specs.declared.Refusal.{Refusal}
 
@@ -39,20 +40,19 @@ signedDigits (negsuc n) = code "-" ∷ digits (suc n)
 
 -- The third count of a header, if the format has one.
 abbrev pub thirdDigits : Format → ℕ → List ℕ
-thirdDigits Plain t = []
-thirdDigits Weighted t = bytes " " ++ digits t
-thirdDigits Grouped t = bytes " " ++ digits t
+thirdDigits f t = cond (hasThird f) (bytes " " ++ digits t) []
 
 -- The line of a header.
 unfoldable pub headerLine : Format → Header → List ℕ
 headerLine f h =
     bytes "p " ++ formatWord f ++ bytes " " ++ digits (h .variables) ++ bytes " " ++ digits (h .clauses) ++ thirdDigits f (h .third) ++ bytes "\n"
 
--- What stands before the literals: a weight, or a group in braces, and a space.
+-- What stands before the literals: a weight, or a group in braces, or the word `h` of a hard clause, and a space.
 abbrev pub lead : Format → ℕ → List ℕ
 lead Plain extra = []
 lead Weighted extra = digits extra ++ bytes " "
 lead Grouped extra = bytes "{" ++ digits extra ++ bytes "} "
+lead Weighted2022 extra = cond (eqb extra hard) (bytes "h ") (digits extra ++ bytes " ")
 
 -- A literal with the space after it.
 abbrev pub item : ℤ → List ℕ
@@ -76,16 +76,27 @@ pub data Written : Type 0 where
 abbrev pub fits : ℕ → List ℕ → Written
 fits room line = cond (leb (length line) room) (written line) (unwritten (callRefusal Reason.outputTooShort 0))
 
--- A header is refused if its count of variables is above the ceiling, before the output's length is.
+-- A header is refused in a format that has none; then if its count of variables is above the ceiling, before the output's length is.
 unfoldable pub writeHeader : Format → Header → ℕ → Written
-writeHeader f h room = cond (leb (h .variables) ceiling) (fits room (headerLine f h)) (unwritten (callRefusal Reason.variableCountTooBig 0))
+writeHeader f h room =
+    cond (hasHeader f)
+    (cond (leb (h .variables) ceiling) (fits room (headerLine f h)) (unwritten (callRefusal Reason.variableCountTooBig 0)))
+    (unwritten (callRefusal Reason.formatOrModeUnknown 0))
 
 -- A literal is neither 0 nor beyond the ceiling.
 abbrev pub isLiteral : ℤ → Bool
 isLiteral l = leb 1 (natAbs l) && leb (natAbs l) ceiling
 
 -- The first bad literal is refused by its index, before the output's length is.
-unfoldable pub writeClause : Format → ℕ → List ℤ → ℕ → Written
-writeClause f extra so room =
+unfoldable pub writeLine : Format → ℕ → List ℤ → ℕ → Written
+writeLine f extra so room =
     let good = run isLiteral so in
     cond (leb (length so) good) (fits room (clauseLine f extra so)) (unwritten (callRefusal Reason.literalNotWritable good))
+
+-- A clause, in the 2022 form a soft one, whose weight is not 0.
+unfoldable pub writeClause : Format → ℕ → List ℤ → ℕ → Written
+writeClause f extra so room = cond (hasHard f && eqb extra 0) (unwritten (callRefusal Reason.weightZero 0)) (writeLine f extra so room)
+
+-- A hard clause, in the format that has them.
+unfoldable pub writeHardClause : Format → List ℤ → ℕ → Written
+writeHardClause f so room = cond (hasHard f) (writeLine f hard so room) (unwritten (callRefusal Reason.formatOrModeUnknown 0))

@@ -3,6 +3,8 @@
 ghost use mathlib.Core.Path.{_≡_};
 ghost use lib.IntN.{natAbs};
 ghost use Rattle.dimacs.specs.Names.{kindIn, kindOf, numbered, callNumbered};
+ghost use Rattle.dimacs.specs.Header.{hasHeader, hasThird};
+ghost use Rattle.dimacs.specs.Clauses.{hasHard};
 
 // The largest variable, and the largest literal either way.
 pub const CEILING: u32 = 2147483647;
@@ -19,11 +21,12 @@ pub const ROOM: usize = 1024;
 // The places of a tray.
 pub const PLACES: usize = 32;
 
-// A text of clauses is plain, or each clause has a weight, or each has a group.
+// A text of clauses is plain, or each clause has a weight, or each has a group, or each is hard or has a weight, as in the 2022 form.
 pub enum Format {
     Plain,
     Weighted,
     Grouped,
+    Weighted2022,
 }
 
 // The number that names a log.
@@ -50,6 +53,7 @@ fn kind_in(format: u8, mode: Mode) -> Kind
         1 => Kind::Clauses(Format::Weighted, mode),
         2 => Kind::Clauses(Format::Grouped, mode),
         LOG_FORMAT => Kind::Log(mode),
+        4 => Kind::Clauses(Format::Weighted2022, mode),
         _ => Kind::Unknown,
     }
 }
@@ -64,6 +68,45 @@ pub fn kind_of(format: u8, mode: u8) -> Kind
         _ => Kind::Unknown,
     }
 }
+
+// Whether texts of a format may have a header.
+pub fn has_header(format: Format) -> bool
+    ensures { λ r. ⌜ r ≡ hasHeader format ⌝ }
+{
+    match format {
+        Format::Plain => true,
+        Format::Weighted => true,
+        Format::Grouped => true,
+        Format::Weighted2022 => false,
+    }
+}
+
+// Whether a header of a format has a third count.
+pub fn has_third(format: Format) -> bool
+    ensures { λ r. ⌜ r ≡ hasThird format ⌝ }
+{
+    match format {
+        Format::Plain => false,
+        Format::Weighted => true,
+        Format::Grouped => true,
+        Format::Weighted2022 => false,
+    }
+}
+
+// Whether clauses of a format are hard or soft.
+pub fn has_hard(format: Format) -> bool
+    ensures { λ r. ⌜ r ≡ hasHard format ⌝ }
+{
+    match format {
+        Format::Plain => false,
+        Format::Weighted => false,
+        Format::Grouped => false,
+        Format::Weighted2022 => true,
+    }
+}
+
+// The weight with which a hard clause of the 2022 form is answered.
+pub const HARD: u64 = 0;
 
 // Refusals by number. Their meanings stand beside the same names in specs/Names.
 pub const FORMAT_WORD_EXPECTED: u8 = 1;
@@ -121,6 +164,10 @@ pub const FORMAT_OR_MODE_UNKNOWN: u8 = 26;
 pub const LITERAL_NOT_WRITABLE: u8 = 27;
 
 pub const OUTPUT_TOO_SHORT: u8 = 28;
+
+pub const WEIGHT_ZERO: u8 = 32;
+
+pub const HEADER_NOT_EXPECTED: u8 = 33;
 
 // A refusal: its number, and the place at fault.
 pub struct Refusal {
@@ -198,7 +245,7 @@ pub enum Opening {
     Refused(Refusal),
 }
 
-// What it means that no number stands at a place: the text may end there; or there is no clause; or there are no literals after a weight or group.
+// What it means that no number stands at a place: the text may end there; or there is no clause; or there are no literals after a weight, a group or the word `h`.
 pub enum Absence {
     MayEnd,
     NoClause,
@@ -211,7 +258,7 @@ pub enum Instead {
     Refused(Refusal),
 }
 
-// How a clause begins: with literals from a place on, after its weight or group, 0 if the format has neither, and with what it means if no number
+// How a clause begins: with literals from a place on, after its weight or group, 0 if it has neither, and with what it means if no number
 // stands there; or not, with what is answered instead.
 pub enum Start {
     Literals {

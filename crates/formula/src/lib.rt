@@ -1,4 +1,4 @@
-// Texts of clauses, read clause by clause: plain, weighted and grouped, strict or lenient.
+// Texts of clauses in each format, read clause by clause, strict or lenient.
 //
 // `open` answers how the text opens, and a cursor. Each `next_clause` answers a clause, the end or a refusal, and the cursor to go on with.
 ghost use mathlib.Core.Path.{_≡_};

@@ -23,6 +23,8 @@ use dimacs::THIRD_COUNT_TOO_BIG;
 use dimacs::Uint;
 use dimacs::VARIABLE_COUNT_EXPECTED;
 use dimacs::VARIABLE_COUNT_TOO_BIG;
+use dimacs::has_header;
+use dimacs::has_third;
 use dimacs::refuse;
 
 // Past the format's word.
@@ -33,6 +35,7 @@ fn format_word(text: &[u8], at: usize, format: Format) -> usize
         Format::Plain => token::word(text, at, b"cnf"),
         Format::Weighted => token::word(text, at, b"wcnf"),
         Format::Grouped => token::word(text, at, b"gcnf"),
+        Format::Weighted2022 => at,
     }
 }
 
@@ -71,11 +74,10 @@ fn third_there(text: &[u8], at: usize, variables: u64, clauses: u64) -> Opening
 fn third_count(text: &[u8], at: usize, format: Format, variables: u64, clauses: u64) -> Opening
     ensures { λ r. ⌜ r ≡ thirdCount (now (text .entry)) format variables clauses at ⌝ }
 {
-    match format {
-        Format::Plain => header_end(text, at, variables, clauses, 0),
-        Format::Weighted => third_there(text, at, variables, clauses),
-        Format::Grouped => third_there(text, at, variables, clauses),
+    if has_third(format) {
+        return third_there(text, at, variables, clauses);
     }
+    header_end(text, at, variables, clauses, 0)
 }
 
 fn clause_count(text: &[u8], at: usize, format: Format, variables: u64) -> Opening
@@ -113,11 +115,13 @@ fn opening_of(text: &[u8], format: Format) -> Opening
     ensures { λ r. ⌜ r ≡ openingOf (now (text .entry)) format ⌝ }
 {
     let at = token::comments_and_newlines(text, token::skip_whitespace(text, 0));
-    let past = token::word(text, at, b"p");
-    if past == at {
-        return Opening::NoHeader(at);
+    if has_header(format) {
+        let past = token::word(text, at, b"p");
+        if past != at {
+            return after_p(text, past, format);
+        }
     }
-    after_p(text, past, format)
+    Opening::NoHeader(at)
 }
 
 // The limits where no count applies.
@@ -153,6 +157,7 @@ fn group_limit(format: Format, third: u64) -> u64
             }
             third
         }
+        Format::Weighted2022 => LARGEST,
     }
 }
 

@@ -1,11 +1,14 @@
 -- The lines that several programs print.
 use Prim.Native.Nat.{ℕ}
+use mathlib.Core.Bool.{cond}
 use mathlib.Core.List.{List, [], _++_}
+use lib.Dec.{eqb}
 use lib.IntN.{ℤ}
 use Rattle.dimacs.specs.Bytes.{bytes}
+use Rattle.dimacs.specs.Names.{hard}
 use Rattle.dimacs.specs.Writing.{digits, thirdDigits}
 use Rattle.dimacs.specs.declared.Format.{Format}
-use Rattle.dimacs.specs.declared.Format.the-variants.{Plain, Weighted, Grouped}
+use Rattle.dimacs.specs.declared.Format.the-variants.{Plain, Weighted, Grouped, Weighted2022}
 use Rattle.dimacs.specs.declared.Header.{Header}
 use Rattle.dimacs.specs.declared.Opening.{Opening}
 use Rattle.dimacs.specs.declared.Opening.the-variants.{NoHeader, Refused}
@@ -21,11 +24,16 @@ printedLabel label n = label ++ printedNumber n
 abbrev pub printedHeader : Format → Header → List ℕ
 printedHeader f h = printedLabel (bytes "header") (h .variables) ++ printedNumber (h .clauses) ++ thirdDigits f (h .third)
 
--- The weight or the group of a clause, if the format has one.
+-- The weight of a clause.
+abbrev pub printedWeight : ℕ → List ℕ
+printedWeight n = printedNumber n ++ bytes ":"
+
+-- The weight or the group of a clause, if the format has one, or the `h` of a hard one.
 abbrev pub printedLead : Format → ℕ → List ℕ
 printedLead Plain extra = []
-printedLead Weighted extra = printedNumber extra ++ bytes ":"
+printedLead Weighted extra = printedWeight extra
 printedLead Grouped extra = bytes " {" ++ digits extra ++ bytes "}:"
+printedLead Weighted2022 extra = cond (eqb extra hard) (bytes " h:") (printedWeight extra)
 
 -- A clause.
 abbrev pub printedClause : Format → ℕ → List ℤ → List ℕ

@@ -2,11 +2,13 @@
 ghost use mathlib.Core.List.{[]};
 ghost use Rattle.dimacs.specs.Writing.{thirdDigits};
 ghost use Rattle.pages.specs.Pages.{Lays};
-ghost use Rattle.lines.specs.Printed.{printedLabel, printedHeader, printedLead, printedClause, printedRefusal, printedPlacedRefusal, printedOpening, printedCase, printedLine};
+ghost use Rattle.lines.specs.Printed.{printedLabel, printedHeader, printedWeight, printedLead, printedClause, printedRefusal, printedPlacedRefusal, printedOpening, printedCase, printedLine};
 use dimacs::Format;
+use dimacs::HARD;
 use dimacs::Header;
 use dimacs::Opening;
 use dimacs::Refusal;
+use dimacs::has_third;
 use pages::byte;
 pub use pages::hex_word;
 pub use pages::literals;
@@ -27,11 +29,10 @@ fn labelled(page: &mut [u8], at: usize, label: &[u8], n: u64) -> usize
 fn third(page: &mut [u8], at: usize, format: Format, n: u64) -> usize
     ensures { λ r. ⌜ Lays at (thirdDigits format n) (now (page .entry)) (now (page .exit)) r ⌝ }
 {
-    match format {
-        Format::Plain => at,
-        Format::Weighted => number(page, at, n),
-        Format::Grouped => number(page, at, n),
+    if has_third(format) {
+        return number(page, at, n);
     }
+    at
 }
 
 pub fn header_words(page: &mut [u8], at: usize, header: Header, format: Format) -> usize
@@ -42,20 +43,30 @@ pub fn header_words(page: &mut [u8], at: usize, header: Header, format: Format) 
     third(page, past_clauses, format, header.third)
 }
 
-// The weight or group of a clause, in the formats that have one.
+fn weight(page: &mut [u8], at: usize, n: u64) -> usize
+    ensures { λ r. ⌜ Lays at (printedWeight n) (now (page .entry)) (now (page .exit)) r ⌝ }
+{
+    let past = number(page, at, n);
+    byte(page, past, b':')
+}
+
+// The weight or group of a clause, in the formats that have one, or the `h` of a hard one.
 fn lead(page: &mut [u8], at: usize, format: Format, extra: u64) -> usize
     ensures { λ r. ⌜ Lays at (printedLead format extra) (now (page .entry)) (now (page .exit)) r ⌝ }
 {
     match format {
         Format::Plain => at,
-        Format::Weighted => {
-            let past = number(page, at, extra);
-            byte(page, past, b':')
-        }
+        Format::Weighted => weight(page, at, extra),
         Format::Grouped => {
             let past_brace = word(page, at, b" {");
             let past = plain_number(page, past_brace, extra);
             word(page, past, b"}:")
+        }
+        Format::Weighted2022 => {
+            if extra == HARD {
+                return word(page, at, b" h:");
+            }
+            weight(page, at, extra)
         }
     }
 }

@@ -3,27 +3,32 @@ use Prim.Native.Nat.{ℕ, _+_, _≤_}
 use Prim.Native.Char.{code}
 use mathlib.Core.List.{List, [], _∷_, _++_, append-assoc, append-nil}
 use mathlib.Core.Path.{_≡_, refl, ap, sym, _∙_}
+use mathlib.Core.Bool.{false, cond}
 use native.Mathlib.Omega.{arith}
+use borrow.Author.Tests.{eq-eqb, eqb-true}
+use lib.Dec.{eqb}
 use lib.ListN.{length, getD, length-append}
 use lib.IntN.{ℤ, pos, negsuc}
-use Rattle.dimacs.specs.Names.{ceiling, largest}
-use Rattle.dimacs.specs.Tokens.{intAt, linebreaks}
+use Rattle.dimacs.specs.Names.{ceiling, largest, hard}
+use Rattle.dimacs.specs.Tokens.{uintAt, intAt, word, linebreaks}
 use Rattle.dimacs.specs.Rows.{closes, reads, row}
 use Rattle.dimacs.specs.Clauses as clauses
-use Rattle.dimacs.specs.Clauses.{closed, literals, clause, says, startAt, finish, clauseAt}
+use Rattle.dimacs.specs.Clauses.{closed, literals, clause, says, literalsAfter, softBy, startIn2022, startAt, finish, clauseAt}
 use Rattle.dimacs.specs.Writing.{digits, signedDigits, lead, items, clauseLine}
 use Rattle.dimacs.specs.declared.Format.{Format}
-use Rattle.dimacs.specs.declared.Format.the-variants.{Plain, Weighted, Grouped}
+use Rattle.dimacs.specs.declared.Format.the-variants.{Plain, Weighted, Grouped, Weighted2022}
 use Rattle.dimacs.specs.declared.Absence.{Absence}
 use Rattle.dimacs.specs.declared.Absence.the-variants.{NoLiterals}
 use Rattle.dimacs.specs.declared.Limits.{Limits}
 use Rattle.dimacs.specs.declared.Int.the-variants as int
+use Rattle.dimacs.proofs.Tests.{tested, chosen}
+use Rattle.dimacs.proofs.WordEnds.{word-no}
 use Rattle.dimacs.proofs.Rows.{row-closes, row-takes}
 use Rattle.dimacs.proofs.Literals.{closed-by}
 use Rattle.read_back.specs.ReadBack.{Each, ExtraFits, LiteralFits, ClauseFits, Clause, answerOf}
 use Rattle.read_back.proofs.Digits.{digits-write}
-use Rattle.read_back.proofs.Ends.{Ends, start, ends-past, ends-after}
-use Rattle.read_back.proofs.Tokens.{Parts, line, uint-written, braced-written, zero-written, literal-written, line-written, Bare, spaced, linebreaks-none}
+use Rattle.read_back.proofs.Ends.{Ends, start, ends-past, ends-after, byte-start}
+use Rattle.read_back.proofs.Tokens.{Parts, line, uint-written, braced-written, zero-written, literal-written, line-written, after-word, Bare, spaced, linebreaks-none}
 
 -- A byte with which a clause may begin.
 pub record Opener (b : ℕ) : Type 0 where
@@ -87,11 +92,13 @@ abbrev leading : Format → ℕ → List ℕ → List ℕ
 leading Plain extra u = u
 leading Weighted extra u = digits extra ++ (code " " ∷ u)
 leading Grouped extra u = code "{" ∷ (digits extra ++ (code "}" ∷ code " " ∷ u))
+leading Weighted2022 extra u = cond (eqb extra hard) (code "h" ∷ code " " ∷ u) (digits extra ++ (code " " ∷ u))
 
 lead-on : (f : Format) (extra : ℕ) (u : List ℕ) → lead f extra ++ u ≡ leading f extra u
 lead-on Plain extra u = refl
 lead-on Weighted extra u = append-assoc (digits extra) (32 ∷ []) u
 lead-on Grouped extra u = ap (λ l. 123 ∷ l) (append-assoc (digits extra) (125 ∷ 32 ∷ []) u)
+lead-on Weighted2022 extra u = tested (eqb extra 0) (λ e. rw e) (λ e. rw e (append-assoc (digits extra) (32 ∷ []) u))
 
 line-on : (f : Format) (extra : ℕ) (so : List ℤ) (t : List ℕ) → clauseLine f extra so ++ t ≡ leading f extra (closing so t)
 unfolding clauseLine
@@ -104,6 +111,7 @@ line-opens f extra so t = rw (line-on f extra so t) (go f)
     go Plain = closing-opens so t
     go Weighted = digits-open extra (32 ∷ closing so t)
     go Grouped = omega arith
+    go Weighted2022 = chosen (λ l. Opener (getD l 0 0)) (eqb extra 0) (λ _. omega arith) (λ _. digits-open extra (32 ∷ closing so t))
 
 module _ (s : List ℕ) (limits : Limits) (low : limits .literals ≤ ceiling) (room : ℕ) (extra : ℕ) (so : List ℤ) (t : List ℕ)
     (k : Each (LiteralFits (limits .literals)) so) (few : length so ≤ room) where
@@ -115,6 +123,39 @@ module _ (s : List ℕ) (limits : Limits) (low : limits .literals ≤ ceiling) (
   owed-written : Ends s (closing so t)
       → let at = linebreaks s (start s (closing so t)) in finish s extra at NoLiterals (literals s (limits .literals) room at) ≡ says (clause extra so) (start s t)
   owed-written h = rw (linebreaks-none (closing so t) (closing-opens so t .bare) h) (finish-written NoLiterals h)
+
+  led-hard : extra ≡ hard → (absence : Absence) → Ends s (code "h" ∷ code " " ∷ closing so t)
+      → clauseAt s limits room Weighted2022 absence (start s (code "h" ∷ code " " ∷ closing so t)) ≡ says (clause extra so) (start s t)
+  unfolding clauseAt startAt startIn2022
+  led-hard e absence h =
+      let u = closing so t in
+      let at = start s (104 ∷ 32 ∷ u) in
+      let l = linebreaks s (start s u) in
+      rw (
+        word-no 112 [] s at (λ z. omega (arith, byte-start h)),
+        eq-eqb at at refl,
+        after-word (104 ∷ []) (parted so t) (omega arith) h (softBy s absence at (uintAt s largest at)) (literalsAfter s hard),
+      )
+      (ap (λ x. finish s x l NoLiterals (literals s (limits .literals) room l)) (sym e) ∙ owed-written (ends-past (104 ∷ 32 ∷ []) u h))
+
+  led-soft : eqb extra 0 ≡ false → extra ≤ largest → (absence : Absence) → Ends s (digits extra ++ (code " " ∷ closing so t))
+      → clauseAt s limits room Weighted2022 absence (start s (digits extra ++ (code " " ∷ closing so t))) ≡ says (clause extra so) (start s t)
+  unfolding clauseAt startAt startIn2022
+  led-soft e k absence h =
+      let u = closing so t in
+      let at = start s (digits extra ++ (32 ∷ u)) in
+      let d = digits-write extra in
+      rw (
+        word-no 112 [] s at (λ z. omega (arith, byte-start h, d .high (32 ∷ u))),
+        word-no 104 [] s at (λ z. omega (arith, byte-start h, d .high (32 ∷ u))),
+        eq-eqb at at refl,
+        uint-written extra (32 ∷ u) h largest (parted so t) k,
+      )
+      (rw e (owed-written (ends-after (digits extra) 32 u h)))
+
+  led-in-2022 : extra ≤ largest → (absence : Absence) → Ends s (leading Weighted2022 extra (closing so t))
+      → clauseAt s limits room Weighted2022 absence (start s (leading Weighted2022 extra (closing so t))) ≡ says (clause extra so) (start s t)
+  led-in-2022 k absence = tested (eqb extra 0) (λ e. rw e (led-hard (eqb-true extra 0 e) absence)) (λ e. rw e (led-soft e k absence))
 
   led : (f : Format) → ExtraFits f limits extra → Ends s (leading f extra (closing so t)) → (absence : Absence)
       → clauseAt s limits room f absence (start s (leading f extra (closing so t))) ≡ says (clause extra so) (start s t)
@@ -129,6 +170,7 @@ module _ (s : List ℕ) (limits : Limits) (low : limits .literals ≤ ceiling) (
       let u = closing so t in
       let k = ends-after (123 ∷ digits extra) 125 (32 ∷ u) h in
       rw (braced-written extra (parted so t) (limits .groups) e h) (owed-written (ends-past (32 ∷ []) u k))
+  led Weighted2022 e h absence = led-in-2022 e absence h
 
 -- The line of a clause is read as that clause.
 pub clause-written : (s : List ℕ) (f : Format) (limits : Limits) (room : ℕ) (c : Clause) (t : List ℕ) → limits .literals ≤ ceiling → ClauseFits f limits room c

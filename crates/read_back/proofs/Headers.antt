@@ -1,22 +1,24 @@
 -- The line of a header, read from the beginning of the text; and a text that begins with a clause has none. Assumes nothing.
 use Prim.Native.Nat.{ℕ, _≤_}
 use Prim.Native.Char.{code}
-use mathlib.Core.Bool.{false}
+use mathlib.Core.Bool.{true, false}
 use mathlib.Core.List.{List, [], _∷_, _++_, append-assoc}
 use mathlib.Core.Path.{_≡_, refl, sym, _∙_}
 use native.Mathlib.Omega.{arith}
 use lib.ListN.{length, getD}
 use Rattle.dimacs.specs.Bytes.{isBlank}
 use Rattle.dimacs.specs.Names.{ceiling, largest}
-use Rattle.dimacs.specs.Header.{formatWord, headerOf, headerEnd, thirdThere, thirdCount, clauseCount, variableCount, afterP, openingOf}
+use Rattle.dimacs.specs.Header.{hasHeader, formatWord, headerOf, headerEnd, thirdThere, thirdCount, clauseCount, variableCount, afterP, openingOf}
 use Rattle.dimacs.specs.Writing.{digits, thirdDigits, headerLine}
 use Rattle.dimacs.specs.declared.Format.{Format}
-use Rattle.dimacs.specs.declared.Format.the-variants.{Plain, Weighted, Grouped}
+use Rattle.dimacs.specs.declared.Format.the-variants.{Plain, Weighted, Grouped, Weighted2022}
 use Rattle.dimacs.specs.declared.Header.{Header}
 use Rattle.dimacs.specs.declared.Opening.the-variants as opening
+use Rattle.dimacs.proofs.Tests.{tested, unlike}
+use Rattle.dimacs.proofs.WordEnds.{word-no}
 use Rattle.read_back.specs.ReadBack.{ThirdFits, HeaderFits}
 use Rattle.read_back.proofs.Ends.{Ends, start, ends-all, ends-past, ends-after, start-all}
-use Rattle.read_back.proofs.Tokens.{Parts, space, line, uint-written, after-word, no-word, line-written, spaced, lines-none}
+use Rattle.read_back.proofs.Tokens.{Parts, space, line, uint-written, after-word, line-written, spaced, lines-none}
 use Rattle.read_back.proofs.Clauses.{Opener, digits-open}
 
 parted : (n : ℕ) (t : List ℕ) → Parts (code " " ∷ (digits n ++ t)) (digits n ++ t)
@@ -44,6 +46,8 @@ module _ {s : List ℕ} (v c : ℕ) (t : List ℕ) where
   unfolding clauseCount thirdCount
   clauses-written Plain n e k h =
       rw (uint-written c (10 ∷ t) h largest line k, e) (header-end-written (headerOf v c 0) t (ends-past (digits c) (10 ∷ t) h))
+  clauses-written Weighted2022 n e k h =
+      rw (uint-written c (10 ∷ t) h largest line k, e) (header-end-written (headerOf v c 0) t (ends-past (digits c) (10 ∷ t) h))
   clauses-written Weighted n e k h = counted-third n e k h
   clauses-written Grouped n e k h = counted-third n e k h
 
@@ -59,15 +63,17 @@ line-on : (f : Format) (h : Header) (t : List ℕ) → headerLine f h ++ t ≡ h
 unfolding headerLine
 line-on f h t = simp append-assoc
 
-word-bare : (f : Format) (t : List ℕ) → isBlank (getD (formatWord f ++ t) 0 0) ≡ false
-word-bare Plain t = refl
-word-bare Weighted t = refl
-word-bare Grouped t = refl
+word-bare : (f : Format) (t : List ℕ) → hasHeader f ≡ true → isBlank (getD (formatWord f ++ t) 0 0) ≡ false
+word-bare Plain t k = refl
+word-bare Weighted t k = refl
+word-bare Grouped t k = refl
+word-bare Weighted2022 t k = unlike (sym k)
 
-word-long : (f : Format) → 1 ≤ length (formatWord f)
-word-long Plain = omega arith
-word-long Weighted = omega arith
-word-long Grouped = omega arith
+word-long : (f : Format) → hasHeader f ≡ true → 1 ≤ length (formatWord f)
+word-long Plain k = omega arith
+word-long Weighted k = omega arith
+word-long Grouped k = omega arith
+word-long Weighted2022 k = unlike (sym k)
 
 module _ {s : List ℕ} (f : Format) (h : Header) (k : HeaderFits f h) (t : List ℕ) where
   counts-written : Ends s (counts f h t) → variableCount s f (start s (counts f h t)) ≡ opening.Header h (start s t)
@@ -81,15 +87,15 @@ module _ {s : List ℕ} (f : Format) (h : Header) (k : HeaderFits f h) (t : List
   word-then-counts : Ends s (formatWord f ++ (code " " ∷ counts f h t)) → afterP s f (start s (formatWord f ++ (code " " ∷ counts f h t))) ≡ opening.Header h (start s t)
   unfolding afterP
   word-then-counts e =
-      after-word (formatWord f) (parted (h .variables) _) (word-long f) e _ (variableCount s f)
+      after-word (formatWord f) (parted (h .variables) _) (word-long f (k .there)) e _ (variableCount s f)
       ∙ counts-written (ends-after (formatWord f) 32 (counts f h t) e)
 
   heading-opens : Ends s (heading f h t) → start s (heading f h t) ≡ 0 → openingOf s f ≡ opening.Header h (start s t)
   unfolding openingOf
   heading-opens e z =
       let u = formatWord f ++ (32 ∷ counts f h t) in
-      rw (rw z at (lines-none (heading f h t) (omega arith) e) ∙ sym z)
-      (after-word (112 ∷ []) (space (word-bare f (32 ∷ counts f h t))) (omega arith) e _ (afterP s f) ∙ word-then-counts (ends-past (112 ∷ 32 ∷ []) u e))
+      rw (rw z at (lines-none (heading f h t) (omega arith) e) ∙ sym z, k .there)
+      (after-word (112 ∷ []) (space (word-bare f (32 ∷ counts f h t) (k .there))) (omega arith) e _ (afterP s f) ∙ word-then-counts (ends-past (112 ∷ 32 ∷ []) u e))
 
 -- A text that begins with the line of a header opens with that header.
 pub header-opens : (f : Format) (h : Header) → HeaderFits f h → (t : List ℕ)
@@ -101,4 +107,5 @@ pub none-opens : (f : Format) (s : List ℕ) → Opener (getD s 0 0) → opening
 unfolding openingOf
 none-opens f s o =
     let z = start-all s in
-    rw (rw z at (lines-none s (o .bare) (ends-all s)), no-word s 112 (o .p))
+    let l = rw z at (lines-none s (o .bare) (ends-all s)) in
+    rw (l, word-no 112 [] s 0 (o .p)) (tested (hasHeader f) (λ e. rw e) (λ e. rw e))

@@ -13,7 +13,7 @@ use Rattle.dimacs.specs.Clauses.{ended}
 use Rattle.dimacs.specs.Texts.{answersFrom, begin, text}
 use Rattle.dimacs.specs.Writing.{headerLine}
 use Rattle.dimacs.specs.declared.Format.{Format}
-use Rattle.dimacs.specs.declared.Format.the-variants.{Plain, Weighted, Grouped}
+use Rattle.dimacs.specs.declared.Format.the-variants.{Plain, Weighted, Grouped, Weighted2022}
 use Rattle.dimacs.specs.declared.Mode.{Mode}
 use Rattle.dimacs.specs.declared.Mode.the-variants.{Strict, Lenient}
 use Rattle.dimacs.specs.declared.Header.{Header}
@@ -44,6 +44,7 @@ bounded f Strict (some h) k =
     groups : (f : Format) → ThirdFits f (h .third) → groupLimit f (h .third) ≤ largest
     groups Plain e = omega arith
     groups Weighted e = omega arith
+    groups Weighted2022 e = omega arith
     groups Grouped e = chosen (λ x. x ≤ largest) (eqb (h .third) 0) (λ _. omega arith) (λ _. e)
 
 -- A formula by its two parts.
@@ -93,6 +94,7 @@ lenient-fits f limits b room c k =
     extra : (f : Format) → ExtraFits f limits (c .extra) → ExtraFits f unlimited (c .extra)
     extra Plain e = e
     extra Weighted e = e
+    extra Weighted2022 e = e
     extra Grouped e = omega arith
 
 lenient-limits : (f : Format) (o : Option Header) → limitsFor f Lenient o ≡ unlimited

@@ -38,7 +38,7 @@ module _ (s : List ℕ) (at : ℕ) (h : length s ≤ at) where
 
   clause-none : (f : Format) (limits : Limits) (room : ℕ) → clauseAt s limits room f MayEnd at ≡ says ended at
   clause-none f limits room =
-      no-clause s limits room f MayEnd at (none-stands s limits f at (record { number = no-number; minus = no-byte s at 44 h; brace = no-byte s at 122 h })) ∙ end-permitted
+      no-clause s limits room f MayEnd at (none-stands s limits f at (record { number = no-number; minus = no-byte s at 44 h; brace = no-byte s at 122 h; hard = no-byte s at 103 h; header = no-byte s at 111 h })) ∙ end-permitted
 
 pub lines-open : (f : Format) (cs : List Clause) → Opener (getD (clauseLines f cs) 0 0)
 unfolding clauseLines

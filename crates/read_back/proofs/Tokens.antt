@@ -18,7 +18,7 @@ use Rattle.dimacs.specs.declared.Int.the-variants as int
 use Rattle.dimacs.specs.declared.EndOfLine.the-variants as end
 use Rattle.dimacs.proofs.Bytes.{no-blank}
 use Rattle.dimacs.proofs.Lines.{line-end-LF, line-end-no, end-at-line, newline-no, line-past-end, lines-stop, linebreaks-no}
-use Rattle.dimacs.proofs.Words.{word-ends-at, fixed-no, fixed-is, word-none, word-is}
+use Rattle.dimacs.proofs.Words.{word-ends-at, fixed-is, word-is}
 use Rattle.dimacs.proofs.Spans.{blanks-spans}
 use Rattle.dimacs.proofs.Numbers.{All, decimal-none, unsigned-found, minus-is, minus-no, braced-found, by-value, int-zero, int-positive, int-negative}
 use Rattle.dimacs.proofs.Writing.{digits-one}
@@ -36,11 +36,6 @@ begins-all : (w t : List ℕ) → begins w (w ++ t) ≡ true
 unfolding begins
 begins-all [] t = refl
 begins-all (a ∷ w) t = rw (eq-eqb a a refl) (begins-all w t)
-
-begins-no : (r : List ℕ) (b : ℕ) → (getD r 0 0 ≡ b → ⊥) → begins (b ∷ []) r ≡ false
-unfolding begins
-begins-no [] b n = refl
-begins-no (a ∷ r) b n = rw (ne-eqb b a (λ e. n (sym e)))
 
 -- What parts a word or number from what is read next: a space, or nothing where the line ends.
 pub data Parts : List ℕ → List ℕ → Type 0 where
@@ -149,10 +144,6 @@ module _ {s : List ℕ} (w : List ℕ) {t r : List ℕ} (p : Parts t r) (k : 1 �
   pub after-word : {A : Type 0} (none : A) (then : ℕ → A)
       → cond (unmoved (start s (w ++ t)) (word s w (start s (w ++ t)))) none (then (word s w (start s (w ++ t)))) ≡ then (start s r)
   after-word none then = rw (word-written, ne-eqb (start s r) (start s (w ++ t)) word-on)
-
--- A word that does not stand.
-pub no-word : (s : List ℕ) (b : ℕ) → (getD s 0 0 ≡ b → ⊥) → word s (b ∷ []) 0 ≡ 0
-no-word s b n = word-none (b ∷ []) s 0 0 (sym (fixed-no (b ∷ []) s 0 (begins-no s b n))) refl
 
 -- A line end.
 pub line-written : {s : List ℕ} (r : List ℕ) → Ends s (code "\n" ∷ r) → endOfLine s (start s (code "\n" ∷ r)) ≡ end.Past (start s r)

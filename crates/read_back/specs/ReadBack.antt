@@ -8,19 +8,19 @@ use mathlib.Core.Logic.{_⊎_}
 use lib.ListN.{length}
 use lib.IntN.{ℤ, natAbs}
 use Rattle.dimacs.specs.Names.{ceiling, largest}
-use Rattle.dimacs.specs.Header.{unlimited, limitsOf}
+use Rattle.dimacs.specs.Header.{hasHeader, unlimited, limitsOf}
 use Rattle.dimacs.specs.Clauses.{Answer, clause, ended, refused}
 use Rattle.dimacs.specs.Texts.{Text, text}
 use Rattle.dimacs.specs.Writing.{headerLine, clauseLine, isLiteral}
 use Rattle.dimacs.specs.declared.Format.{Format}
-use Rattle.dimacs.specs.declared.Format.the-variants.{Plain, Weighted, Grouped}
+use Rattle.dimacs.specs.declared.Format.the-variants.{Plain, Weighted, Grouped, Weighted2022}
 use Rattle.dimacs.specs.declared.Mode.{Mode}
 use Rattle.dimacs.specs.declared.Header.{Header}
 use Rattle.dimacs.specs.declared.Limits.{Limits}
 use Rattle.dimacs.specs.declared.Opening.{Opening}
 use Rattle.dimacs.specs.declared.Opening.the-variants as opening
 
--- A clause: its weight or group, 0 if the format has neither, and its literals.
+-- A clause: its weight or group, 0 if it has neither, and its literals.
 pub record Clause : Type 0 where
   pub extra : ℕ
   pub literals : List ℤ
@@ -72,9 +72,11 @@ abbrev pub ThirdFits : Format → ℕ → Type 0
 ThirdFits Plain t = t ≡ 0
 ThirdFits Weighted t = t ≤ largest
 ThirdFits Grouped t = t ≤ largest
+ThirdFits Weighted2022 t = t ≡ 0
 
--- A header's counts are within their bounds.
+-- The format has a header, and its counts are within their bounds.
 pub record HeaderFits (f : Format) (h : Header) : Type 0 where
+  pub there : hasHeader f ≡ true
   pub variables : h .variables ≤ ceiling
   pub clauses : h .clauses ≤ largest
   pub third : ThirdFits f (h .third)
@@ -84,11 +86,12 @@ abbrev pub AnyFits : Format → Option Header → Type 0
 AnyFits f none = Unit {0}
 AnyFits f (some h) = HeaderFits f h
 
--- What a clause has before its literals: nothing, a weight of 64 bits, or a group within the limit.
+-- What a clause has before its literals: nothing, a weight of 64 bits, a group within the limit, or, in the 2022 form, a weight of 64 bits or the `h` for which 0 stands.
 abbrev pub ExtraFits : Format → Limits → ℕ → Type 0
 ExtraFits Plain limits extra = extra ≡ 0
 ExtraFits Weighted limits extra = extra ≤ largest
 ExtraFits Grouped limits extra = extra ≤ limits .groups
+ExtraFits Weighted2022 limits extra = extra ≤ largest
 
 -- A literal is not 0, and is within a limit either way.
 pub record LiteralFits (limit : ℕ) (l : ℤ) : Type 0 where
@@ -131,10 +134,11 @@ pub record Unrefused (t : Text) : Type 0 where
 
 -- A line that the writer of headers wrote.
 pub record HeaderWritten (f : Format) (h : Header) (line : List ℕ) : Type 0 where
+  pub there : hasHeader f ≡ true
   pub is : line ≡ headerLine f h
   pub variables : h .variables ≤ ceiling
 
--- A line that the writer of clauses wrote.
+-- A line that a writer of clauses wrote.
 pub record ClauseWritten (f : Format) (extra : ℕ) (so : List ℤ) (line : List ℕ) : Type 0 where
   pub is : line ≡ clauseLine f extra so
   pub literals : Each (λ l. isLiteral l ≡ true) so

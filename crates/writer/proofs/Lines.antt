@@ -1,27 +1,25 @@
 -- How long the parts of a line are, and whole lines put. Assumes nothing.
 use Prim.Native.Nat.{ℕ, _+_, _≤_, _<_}
-use mathlib.Core.Bool.{cond}
+use mathlib.Core.Bool.{Bool, true, false, not, cond, _&&_}
 use mathlib.Core.List.{List, [], _∷_, _++_, append-assoc}
-use mathlib.Core.Logic.{⊎-elim}
 use mathlib.Core.Path.{_≡_, refl, ap, sym, _∙_}
 use native.Mathlib.Omega.{arith}
-use borrow.Author.Tests.{le-leb, lt-leb, leb-true}
-use denote.Enum.Declared.{tagOf}
-use types.Run.{OneOf}
+use borrow.Author.Tests.{eq-eqb, ne-eqb, le-leb, lt-leb, leb-true}
 use lib.Dec.{leb, eqb}
 use lib.IntN.{ℤ}
 use lib.ListN.{length, drop, length-append}
 use lib.Seq.{sets-eq}
 use Rattle.dimacs.specs.Bytes.{bytes}
-use Rattle.dimacs.specs.Names.{Reason, numberOf, callRefusal, ceiling}
+use Rattle.dimacs.specs.Names.{Reason, numberOf, callRefusal, ceiling, hard}
 use Rattle.dimacs.specs.Tokens.{run}
+use Rattle.dimacs.specs.Header.{hasHeader, hasThird}
+use Rattle.dimacs.specs.Clauses.{hasHard}
 use Rattle.dimacs.specs.Writing as def
 use Rattle.dimacs.specs.Writing.{isLiteral, digits, items, lead, thirdDigits, headerLine, clauseLine}
 use Rattle.dimacs.specs.declared.Format.{Format}
-use Rattle.dimacs.specs.declared.Format.the-variants.{Plain, Weighted, Grouped}
+use Rattle.dimacs.specs.declared.Format.the-variants.{Plain, Weighted, Grouped, Weighted2022}
 use Rattle.dimacs.specs.declared.Header.{Header}
 use Rattle.dimacs.specs.declared.Refusal.{Refusal}
-use Rattle.dimacs.proofs.Format.{the-type}
 use Rattle.dimacs.proofs.Tests.{tested, chosen}
 use Rattle.decimals.specs.Pieces.{PutAt}
 use Rattle.writer.specs.Lines.{headerStart, headerCount}
@@ -29,11 +27,26 @@ use Rattle.writer.specs.Answers.{Writes, writtenOf, bytesWritten, number
 use Rattle.writer.specs.declared.Written.{Written}
 use Rattle.writer.specs.declared.Written.the-variants.{Line, Refused}
 
+pub not-true : (b : Bool) → not b ≡ true → b ≡ false
+not-true true h = sym h
+not-true false h = refl
+
+pub not-false : (b : Bool) → not b ≡ false → b ≡ true
+not-false true h = refl
+not-false false h = sym h
+
 pub weight-long : (w : ℕ) → length (lead Weighted w) ≡ length (digits w) + 1
 weight-long w = length-append (digits w) (bytes " ")
 
 pub group-long : (g : ℕ) → length (lead Grouped g) ≡ length (digits g) + 3
 group-long g = omega (arith, length-append (digits g) (bytes "} "))
+
+-- In the 2022 form a hard clause begins with `h`, a soft one as a weighted clause does.
+pub hard-lead : {w : ℕ} → w ≡ hard → lead Weighted2022 w ≡ bytes "h "
+hard-lead {w} e = rw (eq-eqb w 0 e)
+
+pub soft-lead : {w : ℕ} → (w ≡ hard → ⊥) → lead Weighted2022 w ≡ lead Weighted w
+soft-lead {w} n = rw (ne-eqb w 0 n)
 
 -- A clause's line in its pieces, as they are to come and as they are put.
 module _ (f : Format) (extra : ℕ) (so : List ℤ) where
@@ -48,18 +61,6 @@ module _ (f : Format) (extra : ℕ) (so : List ℤ) where
   pub clause-long : length (clauseLine f extra so) ≡ length (lead f extra) + 2 + length (items so)
   clause-long = ap length clause-to-come ∙ simp length-append (omega arith)
 
--- A format that is not the plain one, as the last arm of a match knows it, has a third count.
-abbrev NotPlain : Format → Type 0
-NotPlain f = OneOf (1 ∷ 2 ∷ []) (tagOf the-type f)
-
-not-plain : NotPlain Plain → ⊥
-not-plain k = ⊎-elim (λ e. omega (arith, e)) (λ e. omega (arith, e)) k
-
-pub third-count : (f : Format) (third : ℕ) → NotPlain f → thirdDigits f third ≡ headerCount third
-third-count Plain third k = absurd (not-plain k)
-third-count Weighted third k = refl
-third-count Grouped third k = refl
-
 regrouped : (a b c d e : List ℕ) → a ++ (b ++ (c ++ (d ++ e))) ≡ a ++ b ++ c ++ d ++ e
 regrouped a b c d e = simp append-assoc
 
@@ -72,17 +73,17 @@ module _ (f : Format) (h : Header) where
   pub header-put : headerLine f h ≡ headerStart f ++ headerCount (h .variables) ++ headerCount (h .clauses) ++ thirdDigits f (h .third) ++ bytes "\n"
   header-put = header-to-come ∙ regrouped (headerStart f) (headerCount (h .variables)) (headerCount (h .clauses)) (thirdDigits f (h .third)) (bytes "\n")
 
-  header-long : length (headerLine f h) ≡ length (headerStart f) + length (digits (h .variables)) + length (digits (h .clauses)) + length (thirdDigits f (h .third)) + 3
+  pub header-long : length (headerLine f h) ≡ length (headerStart f) + length (digits (h .variables)) + length (digits (h .clauses)) + length (thirdDigits f (h .third)) + 3
   header-long = ap length header-to-come ∙ simp length-append (omega arith)
 
-pub plain-long : {f : Format} (h : Header) → f ≡ Plain → length (headerLine f h) ≡ length (digits (h .variables)) + length (digits (h .clauses)) + 8
-plain-long h e = rw e (omega (arith, header-long Plain h))
+pub start-bounded : (f : Format) → length (headerStart f) ≤ 6
+start-bounded Plain = omega arith
+start-bounded Weighted = omega arith
+start-bounded Grouped = omega arith
+start-bounded Weighted2022 = omega arith
 
-pub third-long : (f : Format) (h : Header) → NotPlain f
-    → length (headerLine f h) ≡ length (digits (h .variables)) + length (digits (h .clauses)) + length (digits (h .third)) + 10
-third-long Plain h k = absurd (not-plain k)
-third-long Weighted h k = omega (arith, header-long Weighted h)
-third-long Grouped h k = omega (arith, header-long Grouped h)
+pub third-bounded : (f : Format) (t : ℕ) → length (thirdDigits f t) ≤ length (digits t) + 1
+third-bounded f t = chosen (λ l. length l ≤ length (digits t) + 1) (hasThird f) (λ _. omega arith) (λ _. omega arith)
 
 -- A refusal leaves the output as it was.
 pub unwritten-at : {d : def.Written} {old : List ℕ} {why : Refusal} {r : Written} → d ≡ def.unwritten why → r ≡ Refused why → Writes d old old r
@@ -99,22 +100,26 @@ too-long line {old} e l a = unwritten-at (e ∙ rw (lt-leb (length line) (length
 
 -- What is judged before the output's length.
 module _ (f : Format) (extra : ℕ) (so : List ℤ) (room : ℕ) {good : ℕ} (e : good ≡ run isLiteral so) where
-  pub clause-bad : good < length so → def.writeClause f extra so room ≡ def.unwritten (callRefusal Reason.literalNotWritable good)
-  unfolding def.writeClause
+  pub clause-bad : good < length so → def.writeLine f extra so room ≡ def.unwritten (callRefusal Reason.literalNotWritable good)
+  unfolding def.writeLine
   clause-bad h = rw (sym e, lt-leb (length so) good h)
 
-  pub clause-good : length so ≤ good → def.writeClause f extra so room ≡ def.fits room (clauseLine f extra so)
-  unfolding def.writeClause
+  pub clause-good : length so ≤ good → def.writeLine f extra so room ≡ def.fits room (clauseLine f extra so)
+  unfolding def.writeLine
   clause-good h = rw (sym e, le-leb (length so) good h)
 
 module _ (f : Format) (h : Header) (room : ℕ) where
-  pub header-bad : ceiling < h .variables → def.writeHeader f h room ≡ def.unwritten (callRefusal Reason.variableCountTooBig 0)
+  pub header-none : hasHeader f ≡ false → def.writeHeader f h room ≡ def.unwritten (callRefusal Reason.formatOrModeUnknown 0)
   unfolding def.writeHeader
-  header-bad l = rw (lt-leb (h .variables) ceiling l)
+  header-none k = rw k
 
-  pub header-good : h .variables ≤ ceiling → def.writeHeader f h room ≡ def.fits room (headerLine f h)
+  pub header-bad : hasHeader f ≡ true → ceiling < h .variables → def.writeHeader f h room ≡ def.unwritten (callRefusal Reason.variableCountTooBig 0)
   unfolding def.writeHeader
-  header-good l = rw (le-leb (h .variables) ceiling l)
+  header-bad k l = rw (k, lt-leb (h .variables) ceiling l)
+
+  pub header-good : hasHeader f ≡ true → h .variables ≤ ceiling → def.writeHeader f h room ≡ def.fits room (headerLine f h)
+  unfolding def.writeHeader
+  header-good k l = rw (k, le-leb (h .variables) ceiling l)
 
 -- What is written is no longer than the output.
 abbrev Within : ℕ → def.Written → Type 0
@@ -123,13 +128,23 @@ Within room d = length (bytesWritten d) ≤ room
 fits-within : (room : ℕ) (line : List ℕ) → Within room (def.fits room line)
 fits-within room line = chosen (Within room) (leb (length line) room) (leb-true (length line) room) (λ t. omega arith)
 
+line-fits : (f : Format) (extra : ℕ) (so : List ℤ) (room : ℕ) → Within room (def.writeLine f extra so room)
+unfolding def.writeLine
+line-fits f extra so room = chosen (Within room) (leb (length so) (run isLiteral so)) (λ t. fits-within room (clauseLine f extra so)) (λ t. omega arith)
+
 pub clause-within : (f : Format) (extra : ℕ) (so : List ℤ) (room : ℕ) → Within room (def.writeClause f extra so room)
 unfolding def.writeClause
-clause-within f extra so room = chosen (Within room) (leb (length so) (run isLiteral so)) (λ t. fits-within room (clauseLine f extra so)) (λ t. omega arith)
+clause-within f extra so room = chosen (Within room) (hasHard f && eqb extra 0) (λ t. omega arith) (λ t. line-fits f extra so room)
+
+pub hard-clause-within : (f : Format) (so : List ℤ) (room : ℕ) → Within room (def.writeHardClause f so room)
+unfolding def.writeHardClause
+hard-clause-within f so room = chosen (Within room) (hasHard f) (λ t. line-fits f hard so room) (λ t. omega arith)
 
 pub header-within : (f : Format) (h : Header) (room : ℕ) → Within room (def.writeHeader f h room)
 unfolding def.writeHeader
-header-within f h room = chosen (Within room) (leb (h .variables) ceiling) (λ t. fits-within room (headerLine f h)) (λ t. omega arith)
+header-within f h room =
+    chosen (Within room) (hasHeader f)
+    (λ _. chosen (Within room) (leb (h .variables) ceiling) (λ t. fits-within room (headerLine f h)) (λ t. omega arith)) (λ _. omega arith)
 
 length-told : (d : def.Written) → lineLength (writtenOf d) ≡ length (bytesWritten d)
 length-told (def.written line) = refl
@@ -143,14 +158,26 @@ line-within {d} h w = rw (w .answer, length-told d) h
 pub header-place : (f : Format) (h : Header) (room : ℕ) → placeIn (writtenOf (def.writeHeader f h room)) ≡ 0
 unfolding def.writeHeader
 header-place f h room =
-    tested (leb (h .variables) ceiling) (λ a. tested (leb (length (headerLine f h)) room) (λ b. rw (a, b)) (λ b. rw (a, b))) (λ a. rw a)
+    tested (hasHeader f)
+    (λ k. tested (leb (h .variables) ceiling) (λ a. tested (leb (length (headerLine f h)) room) (λ b. rw (k, a, b)) (λ b. rw (k, a, b))) (λ a. rw (k, a)))
+    (λ k. rw k)
 
 -- A clause that is refused for a literal is at the index of the first bad one, any other at place 0.
-pub clause-place : (f : Format) (extra : ℕ) (so : List ℤ) (room : ℕ) → let r = writtenOf (def.writeClause f extra so room) in
-    placeIn r ≡ cond (eqb (numberIn r) (numberOf Reason.literalNotWritable)) (run isLiteral so) 0
+abbrev PlacedBy : List ℤ → def.Written → Type 0
+PlacedBy so d = let r = writtenOf d in placeIn r ≡ cond (eqb (numberIn r) (numberOf Reason.literalNotWritable)) (run isLiteral so) 0
+
+line-place : (f : Format) (extra : ℕ) (so : List ℤ) (room : ℕ) → PlacedBy so (def.writeLine f extra so room)
+unfolding def.writeLine
+line-place f extra so room =
+    chosen (PlacedBy so) (leb (length so) (run isLiteral so)) (λ _. chosen (PlacedBy so) (leb (length (clauseLine f extra so)) room) (λ _. refl) (λ _. refl)) (λ _. refl)
+
+pub clause-place : (f : Format) (extra : ℕ) (so : List ℤ) (room : ℕ) → PlacedBy so (def.writeClause f extra so room)
 unfolding def.writeClause
-clause-place f extra so room =
-    tested (leb (length so) (run isLiteral so)) (λ a. tested (leb (length (clauseLine f extra so)) room) (λ b. rw (a, b)) (λ b. rw (a, b))) (λ a. rw a)
+clause-place f extra so room = chosen (PlacedBy so) (hasHard f && eqb extra 0) (λ _. refl) (λ _. line-place f extra so room)
+
+pub hard-clause-place : (f : Format) (so : List ℤ) (room : ℕ) → PlacedBy so (def.writeHardClause f so room)
+unfolding def.writeHardClause
+hard-clause-place f so room = chosen (PlacedBy so) (hasHard f) (λ _. line-place f hard so room) (λ _. refl)
 
 -- Two answers that the contract permits are equal, and leave the same output.
 pub one-writing : {d : def.Written} {old n₁ n₂ : List ℕ} {r₁ r₂ : Written} → Writes d old n₁ r₁ → Writes d old n₂ r₂ → (r₁ ≡ r₂) × (n₁ ≡ n₂)

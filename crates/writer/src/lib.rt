@@ -1,12 +1,16 @@
-// Headers and clauses of the three formats, written into a lent output.
+// Headers and clauses of each format, written into a lent output.
 //
 // A line is written whole or not at all: a writer answers the length of its line, or a refusal with the output untouched.
 ghost use mathlib.Core.Path.{_≡_};
 ghost use Prim.Native.Nat.{_+_, _-_, _≤_};
+ghost use lib.Dec.{eqb};
 ghost use lib.ListN.{length};
+ghost use mathlib.Core.Bool.{_&&_};
+ghost use Rattle.dimacs.specs.Clauses.{hasHard};
 ghost use Rattle.dimacs.specs.Names.{callNumbered};
 ghost use Rattle.dimacs.specs.Tokens.{run};
-ghost use Rattle.dimacs.specs.Writing.{items, lead, thirdDigits, isLiteral, headerLine, clauseLine, writeHeader, writeClause};
+ghost use Rattle.dimacs.specs.Writing.{items, lead, thirdDigits, isLiteral, headerLine, clauseLine, writeHeader, writeLine, writeClause, writeHardClause};
+ghost use Rattle.dimacs.specs.declared.Format.{Format};
 ghost use Rattle.decimals.specs.Pieces.{PutAt, ifRoom};
 ghost use Rattle.writer.specs.Lines.{headerStart};
 ghost use Rattle.writer.specs.Answers.{Writes};
@@ -17,12 +21,18 @@ use decimals::put_digits;
 use decimals::put_digits_after;
 use decimals::put_literal;
 use dimacs::CEILING;
+use dimacs::FORMAT_OR_MODE_UNKNOWN;
 use dimacs::Format;
+use dimacs::HARD;
 use dimacs::Header;
 use dimacs::LITERAL_NOT_WRITABLE;
 use dimacs::OUTPUT_TOO_SHORT;
 use dimacs::Refusal;
 use dimacs::VARIABLE_COUNT_TOO_BIG;
+use dimacs::WEIGHT_ZERO;
+use dimacs::has_hard;
+use dimacs::has_header;
+use dimacs::has_third;
 use dimacs::magnitude;
 use dimacs::refuse_call;
 
@@ -89,7 +99,7 @@ fn writable(lits: &[i32]) -> usize
     i
 }
 
-// How long what stands around the literals is: the 0 and the line end, and a weight or group with its braces and its space.
+// How long what stands around the literals is: the 0 and the line end, and a weight, a group with its braces or the word `h`, with its space.
 fn around_length(format: Format, extra: u64) -> usize
     ensures { λ r. ⌜ r ≡ length (lead format extra) + 2 ⌝ }
 {
@@ -97,7 +107,36 @@ fn around_length(format: Format, extra: u64) -> usize
         Format::Plain => 2,
         Format::Weighted => digit_count(extra) + 3,
         Format::Grouped => digit_count(extra) + 5,
+        Format::Weighted2022 => {
+            if extra == HARD {
+                return 4;
+            }
+            digit_count(extra) + 3
+        }
     }
+}
+
+// Bytes at the output's front.
+fn put_bytes(out: &mut [u8], piece: &[u8]) -> usize
+    requires { ⌜ length (now piece) ≤ length (now out) ⌝ }
+    ensures { λ r. ⌜ PutAt 0 (now (piece .entry)) (now (out .entry)) (now (out .exit)) r ⌝ }
+{
+    let mut i: usize = 0;
+    while i < piece.len() {
+        out[i] = piece[i];
+        i += 1;
+    }
+    i
+}
+
+// A weight with its space.
+fn put_weight(out: &mut [u8], weight: u64) -> usize
+    requires { ⌜ length (lead Format.Weighted weight) ≤ length (now out) ⌝ }
+    ensures { λ r. ⌜ PutAt 0 (lead Format.Weighted weight) (now (out .entry)) (now (out .exit)) r ⌝ }
+{
+    let past = put_digits(out, 0, weight);
+    out[past] = b' ';
+    past + 1
 }
 
 // What stands before the literals.
@@ -107,16 +146,18 @@ fn put_lead(out: &mut [u8], format: Format, extra: u64) -> usize
 {
     match format {
         Format::Plain => 0,
-        Format::Weighted => {
-            let past = put_digits(out, 0, extra);
-            out[past] = b' ';
-            past + 1
-        }
+        Format::Weighted => put_weight(out, extra),
         Format::Grouped => {
             let past = put_digits_after(out, 0, b'{', extra);
             out[past] = b'}';
             out[past + 1] = b' ';
             past + 2
+        }
+        Format::Weighted2022 => {
+            if extra == HARD {
+                return put_bytes(out, b"h ");
+            }
+            put_weight(out, extra)
         }
     }
 }
@@ -139,9 +180,9 @@ fn unwritten(number: u8, index: usize) -> Written
     Written::Refused(refuse_call(number, index))
 }
 
-// The line of a clause: its weight or group if the format has one, the literals, the 0 and the line end.
-pub fn write_clause(format: Format, extra: u64, lits: &[i32], out: &mut [u8]) -> Written
-    ensures { λ r. ⌜ Writes (writeClause format extra (now (lits .entry)) (length (now (out .entry)))) (now (out .entry)) (now (out .exit)) r ⌝ }
+// The line of a clause, hard if the format has hard clauses and `extra` says so.
+fn write_line(format: Format, extra: u64, lits: &[i32], out: &mut [u8]) -> Written
+    ensures { λ r. ⌜ Writes (writeLine format extra (now (lits .entry)) (length (now (out .entry)))) (now (out .entry)) (now (out .exit)) r ⌝ }
 {
     let good = writable(lits);
     if good < lits.len() {
@@ -153,17 +194,34 @@ pub fn write_clause(format: Format, extra: u64, lits: &[i32], out: &mut [u8]) ->
     unwritten(OUTPUT_TOO_SHORT, 0)
 }
 
-// Bytes at the output's front.
-fn put_bytes(out: &mut [u8], piece: &[u8]) -> usize
-    requires { ⌜ length (now piece) ≤ length (now out) ⌝ }
-    ensures { λ r. ⌜ PutAt 0 (now (piece .entry)) (now (out .entry)) (now (out .exit)) r ⌝ }
+// Whether a soft clause has no weight.
+fn lacks_weight(format: Format, extra: u64) -> bool
+    ensures { λ r. ⌜ r ≡ hasHard format && eqb extra 0 ⌝ }
 {
-    let mut i: usize = 0;
-    while i < piece.len() {
-        out[i] = piece[i];
-        i += 1;
+    if has_hard(format) {
+        return extra == 0;
     }
-    i
+    false
+}
+
+// The line of a clause: its weight or group if the format has one, the literals, the 0 and the line end. In the 2022 form it is soft, and its weight is not 0.
+pub fn write_clause(format: Format, extra: u64, lits: &[i32], out: &mut [u8]) -> Written
+    ensures { λ r. ⌜ Writes (writeClause format extra (now (lits .entry)) (length (now (out .entry)))) (now (out .entry)) (now (out .exit)) r ⌝ }
+{
+    if lacks_weight(format, extra) {
+        return unwritten(WEIGHT_ZERO, 0);
+    }
+    write_line(format, extra, lits, out)
+}
+
+// The line of a hard clause, which the 2022 form alone has.
+pub fn write_hard_clause(format: Format, lits: &[i32], out: &mut [u8]) -> Written
+    ensures { λ r. ⌜ Writes (writeHardClause format (now (lits .entry)) (length (now (out .entry)))) (now (out .entry)) (now (out .exit)) r ⌝ }
+{
+    if has_hard(format) {
+        return write_line(format, HARD, lits, out);
+    }
+    unwritten(FORMAT_OR_MODE_UNKNOWN, 0)
 }
 
 // What a header begins with, up to its word.
@@ -175,6 +233,7 @@ fn put_start(out: &mut [u8], format: Format) -> usize
         Format::Plain => put_bytes(out, b"p cnf"),
         Format::Weighted => put_bytes(out, b"p wcnf"),
         Format::Grouped => put_bytes(out, b"p gcnf"),
+        Format::Weighted2022 => put_bytes(out, b"p "),
     }
 }
 
@@ -182,21 +241,40 @@ fn put_start(out: &mut [u8], format: Format) -> usize
 fn put_third(out: &mut [u8], at: usize, format: Format, third: u64) -> usize
     ensures { λ r. ⌜ PutAt at (ifRoom at (thirdDigits format third) (now (out .entry))) (now (out .entry)) (now (out .exit)) r ⌝ }
 {
+    if has_third(format) {
+        return put_digits_after(out, at, b' ', third);
+    }
+    at
+}
+
+// How long what a header begins with is.
+fn start_length(format: Format) -> usize
+    ensures { λ r. ⌜ r ≡ length (headerStart format) ⌝ }
+{
     match format {
-        Format::Plain => at,
-        _ => put_digits_after(out, at, b' ', third),
+        Format::Plain => 5,
+        Format::Weighted => 6,
+        Format::Grouped => 6,
+        Format::Weighted2022 => 2,
     }
 }
 
-// Eight bytes are fixed, and ten where there is a third count.
+// How long the third count is with its space, if the format has one.
+fn third_length(format: Format, third: u64) -> usize
+    ensures { λ r. ⌜ r ≡ length (thirdDigits format third) ⌝ }
+{
+    if has_third(format) {
+        return digit_count(third) + 1;
+    }
+    0
+}
+
+// Beside its start and its counts a header has two spaces and the line end.
 fn header_length(format: Format, header: Header) -> usize
     ensures { λ r. ⌜ r ≡ length (headerLine format header) ⌝ }
 {
     let counts = digit_count(header.variables) + digit_count(header.clauses);
-    match format {
-        Format::Plain => counts + 8,
-        _ => counts + digit_count(header.third) + 10,
-    }
+    counts + start_length(format) + third_length(format, header.third) + 3
 }
 
 fn put_header(out: &mut [u8], format: Format, header: Header) -> usize
@@ -215,6 +293,9 @@ fn put_header(out: &mut [u8], format: Format, header: Header) -> usize
 pub fn write_header(format: Format, header: Header, out: &mut [u8]) -> Written
     ensures { λ r. ⌜ Writes (writeHeader format header (length (now (out .entry)))) (now (out .entry)) (now (out .exit)) r ⌝ }
 {
+    if !has_header(format) {
+        return unwritten(FORMAT_OR_MODE_UNKNOWN, 0);
+    }
     if (CEILING as u64) < header.variables {
         return unwritten(VARIABLE_COUNT_TOO_BIG, 0);
     }

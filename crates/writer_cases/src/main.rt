@@ -118,6 +118,7 @@ fn of_kind(format: Format, call: Call, lits: &[i32], out: &mut [u8]) -> Written 
             out,
         ),
         1 => writer::write_clause(format, call.first, lits, out),
+        2 => writer::write_hard_clause(format, lits, out),
         _ => unknown(),
     }
 }

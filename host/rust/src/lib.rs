@@ -35,6 +35,8 @@ pub enum Format {
     Grouped = 2,
     /// What a solver prints: `s SATISFIABLE`, then `v 1 -2 0`.
     Log = 3,
+    /// Hard clauses and soft ones with a weight each, by the rules of 2022: no header, then `h 1 -2 0` and `5 1 -2 0`. Both modes read alike.
+    Weighted2022 = 4,
 }
 
 /// How odd texts are taken.
@@ -50,7 +52,7 @@ pub enum Mode {
 /// Why a text was refused, and where.
 #[derive(Clone, Copy, Debug, PartialEq, Eq, Hash)]
 pub struct Refusal {
-    /// The number of the refusal: 1 to 19, or 26 where a number names no format or no mode.
+    /// The number of the refusal: 1 to 19, 32 or 33, or 26 where a number names no format or no mode.
     pub number: u32,
     /// The offset of the word at fault, or of the first byte where something else was expected. That may be the text's length.
     pub place: usize,
@@ -63,7 +65,7 @@ impl Refusal {
     /// use latchtwig::{check, Format, Mode};
     ///
     /// let refusal = check(Format::Weighted, Mode::Strict, b"5\n").unwrap_err();
-    /// assert_eq!(refusal.words(), "literals are expected after a weight or group");
+    /// assert_eq!(refusal.words(), "literals are expected after a weight, a group or `h`");
     /// ```
     pub fn words(&self) -> &'static str {
         // The rows of host/refusals.txt that are marked host.
@@ -75,7 +77,7 @@ impl Refusal {
             5 => "a line end is expected",
             6 => "a literal or 0 is expected",
             7 => "a literal or 0 is expected after the line end",
-            8 => "literals are expected after a weight or group",
+            8 => "literals are expected after a weight, a group or `h`",
             9 => "a clause, a comment, a line end or a permitted end of the text is expected",
             10 => "a count of variables up to 2147483647 is expected",
             11 => "a count of clauses up to 18446744073709551615 is expected",
@@ -88,6 +90,8 @@ impl Refusal {
             18 => "a log line of a permitted kind is expected",
             19 => "the 0 that closes the assignment is expected",
             26 => "a known format and a known mode are expected",
+            32 => "a weight above 0 is expected",
+            33 => "no header is expected, as the 2022 form has none",
             _ => "no refusal has this number",
         }
     }
@@ -126,7 +130,7 @@ pub fn check(format: Format, mode: Mode, text: &[u8]) -> Result<(), Refusal> {
     check_by_number(format as u32, mode as u32, text)
 }
 
-/// The same by numbers that come from elsewhere: formats 0 to 3 and modes 0 and 1, in the order of [`Format`] and [`Mode`]. Others are refusal 26 at place 0.
+/// The same by numbers that come from elsewhere: formats 0 to 4 and modes 0 and 1, in the order of [`Format`] and [`Mode`]. Others are refusal 26 at place 0.
 ///
 /// ```
 /// assert_eq!(latchtwig::check_by_number(256, 0, b"1 0\n").unwrap_err().number, 26);

@@ -25,6 +25,12 @@ braced-uint-requires c κs = search needs
 start-by-requires-2 : tie.Need-start-by-requires-2
 start-by-requires-2 c κs = search needs
 
+enum-told-4 : tie.Need-enum-told-4
+enum-told-4 c = search needs
+
+start-in-2022-requires : tie.Need-start-in-2022-requires
+start-in-2022-requires c κs = search needs
+
 returns : tie.Need-returns
 unfolding startAt
 returns c = let f = c .enum-told .given .1 in rw f
@@ -37,6 +43,10 @@ returns-3 : tie.Need-returns-3
 unfolding startAt
 returns-3 c = let f = c .before .before .enum-told3 .given .1 in let u = c .before .braced-uint .ensures in rw f (rw u at (c .start-by2 .ensures))
 
+returns-4 : tie.Need-returns-4
+unfolding startAt
+returns-4 c = let f = c .before .enum-told4 .given .1 in rw f (c .start-in-2022 .ensures)
+
 pub start-at-spec : {M : Type 1} → statement M
 start-at-spec =
     tie.close
@@ -48,6 +58,9 @@ start-at-spec =
     enum-told-3
     braced-uint-requires
     start-by-requires-2
+    enum-told-4
+    start-in-2022-requires
     returns
     returns-2
-    returns-3)
+    returns-3
+    returns-4)

@@ -18,8 +18,8 @@ refuse-requires c κs = search needs
 enum-known-mark : tie.Need-enum-known-mark
 enum-known-mark c = search needs
 
-non-terminating-linebreaks-requires : tie.Need-non-terminating-linebreaks-requires
-non-terminating-linebreaks-requires c κs = search needs
+literals-after-requires : tie.Need-literals-after-requires
+literals-after-requires c κs = search needs
 
 returns : tie.Need-returns
 returns c = let m = c .before .enum-told .given .1 in let a = c .absent .ensures in rw (m, a)
@@ -28,7 +28,7 @@ returns-2 : tie.Need-returns-2
 returns-2 c = let m = c .before .enum-told2 .given .1 in let r = c .refuse .ensures in rw (m, r)
 
 returns-3 : tie.Need-returns-3
-returns-3 c = let m = c .before .before .mark .given .1 in let l = c .non-terminating-linebreaks .ensures in rw (m, l)
+returns-3 c = let m = c .before .before .mark .given .1 in rw m (c .literals-after .ensures)
 
 pub start-by-spec : {M : Type 1} → statement M
 start-by-spec =
@@ -39,7 +39,7 @@ start-by-spec =
     enum-told-2
     refuse-requires
     enum-known-mark
-    non-terminating-linebreaks-requires
+    literals-after-requires
     returns
     returns-2
     returns-3)

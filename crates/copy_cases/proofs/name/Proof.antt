@@ -30,6 +30,15 @@ slice-aggregate-word-3 c = search needs
 word-requires-3 : tie.Need-word-requires-3
 word-requires-3 c κs = search needs
 
+enum-told-4 : tie.Need-enum-told-4
+enum-told-4 c = search needs
+
+slice-aggregate-word-4 : tie.Need-slice-aggregate-word-4
+slice-aggregate-word-4 c = search needs
+
+word-requires-4 : tie.Need-word-requires-4
+word-requires-4 c κs = search needs
+
 same-length : tie.Need-same-length
 same-length c = search needs
 
@@ -57,6 +66,15 @@ returns-3 c =
     let f = at-word .before .before .before .enum-told3 .given .1 in
     rw f (at-word .word3 .ensures)
 
+same-length-4 : tie.Need-same-length-4
+same-length-4 c = search needs
+
+returns-4 : tie.Need-returns-4
+returns-4 c =
+    let at-word = c .before .before in
+    let f = at-word .before .before .before .enum-told4 .given .1 in
+    rw f (at-word .word4 .ensures)
+
 pub name-spec : {M : Type 1} → statement M
 name-spec =
     tie.close
@@ -70,9 +88,14 @@ name-spec =
     enum-told-3
     slice-aggregate-word-3
     word-requires-3
+    enum-told-4
+    slice-aggregate-word-4
+    word-requires-4
     same-length
     returns
     same-length-2
     returns-2
     same-length-3
-    returns-3)
+    returns-3
+    same-length-4
+    returns-4)

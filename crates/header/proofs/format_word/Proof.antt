@@ -1,4 +1,6 @@
 -- `header::format_word` meets its contract, by the format. Assumes nothing.
+use mathlib.Core.Path.{sym}
+use Rattle.dimacs.proofs.Words.{no-word}
 use borrow.Author.Needs.{needs}
 use Rattle.header.proofs.format_word.Statement.{statement}
 use Rattle.header.proofs.format_word.Tie as tie
@@ -30,6 +32,9 @@ slice-aggregate-word-3 c = search needs
 word-requires-3 : tie.Need-word-requires-3
 word-requires-3 c κs = search needs
 
+enum-told-4 : tie.Need-enum-told-4
+enum-told-4 c = search needs
+
 returns : tie.Need-returns
 returns c = let f = c .before .before .enum-told .given .1 in rw f (c .word .ensures)
 
@@ -38,6 +43,9 @@ returns-2 c = let f = c .before .before .enum-told2 .given .1 in rw f (c .word2 
 
 returns-3 : tie.Need-returns-3
 returns-3 c = let f = c .before .before .enum-told3 .given .1 in rw f (c .word3 .ensures)
+
+returns-4 : tie.Need-returns-4
+returns-4 c = let f = c .enum-told4 .given .1 in rw f (sym (no-word _ _))
 
 pub format-word-spec : {M : Type 1} → statement M
 format-word-spec =
@@ -52,6 +60,8 @@ format-word-spec =
     enum-told-3
     slice-aggregate-word-3
     word-requires-3
+    enum-told-4
     returns
     returns-2
-    returns-3)
+    returns-3
+    returns-4)

@@ -1,4 +1,4 @@
--- `header::opening_of` meets its contract: the word `p` stands, or it does not. Assumes nothing.
+-- `header::opening_of` meets its contract: the word `p` stands in a format that has a header, or it does not. Assumes nothing.
 use mathlib.Core.Path.{_≡_, sym, ap, _∙_}
 use borrow.Author.Tests.{eq-eqb, ne-eqb}
 use Rattle.dimacs.specs.Tokens.{lines}
@@ -13,26 +13,47 @@ skip-whitespace-requires c κs = search needs
 comments-and-newlines-requires : tie.Need-comments-and-newlines-requires
 comments-and-newlines-requires c κs = search needs
 
+has-header-requires : tie.Need-has-header-requires
+has-header-requires c κs = search needs
+
 slice-aggregate-word : tie.Need-slice-aggregate-word
 slice-aggregate-word c = search needs
 
 word-requires : tie.Need-word-requires
 word-requires c κs = search needs
 
-returns : tie.Need-returns
-unfolding openingOf
-returns c = let a = c .before .before .before .comments-and-newlines .ensures ∙ ap (lines _) (c .before .before .before .before .skip-whitespace .ensures) in
-    let q = c .before .word .ensures in
-    rw (sym a, sym q, eq-eqb _ _ (c .if1 .taken))
-
 after-p-requires : tie.Need-after-p-requires
 after-p-requires c κs = search needs
 
+returns : tie.Need-returns
+unfolding openingOf
+returns c =
+    let looked = c .before .before in
+    let asked = looked .before .before in
+    let skipped = asked .before .before in
+    let a = skipped .comments-and-newlines .ensures ∙ ap (lines _) (skipped .before .skip-whitespace .ensures) in
+    let has = sym (asked .before .has-header .ensures) ∙ asked .if1 .taken in
+    let q = looked .word .ensures in
+    rw (sym a, sym q, has, ne-eqb _ _ (c .before .if2 .taken)) (c .after-p .ensures)
+
 returns-2 : tie.Need-returns-2
 unfolding openingOf
-returns-2 c = let a = c .before .before .before .before .comments-and-newlines .ensures ∙ ap (lines _) (c .before .before .before .before .before .skip-whitespace .ensures) in
-    let q = c .before .before .word .ensures in
-    rw (sym a, sym q, ne-eqb _ _ (c .before .if1 .left)) (c .after-p .ensures)
+returns-2 c =
+    let looked = c .before in
+    let asked = looked .before .before in
+    let skipped = asked .before .before in
+    let a = skipped .comments-and-newlines .ensures ∙ ap (lines _) (skipped .before .skip-whitespace .ensures) in
+    let has = sym (asked .before .has-header .ensures) ∙ asked .if1 .taken in
+    let q = looked .word .ensures in
+    rw (sym a, sym q, has, eq-eqb _ _ (c .if2 .left))
+
+returns-3 : tie.Need-returns-3
+unfolding openingOf
+returns-3 c =
+    let skipped = c .before .before in
+    let a = skipped .comments-and-newlines .ensures ∙ ap (lines _) (skipped .before .skip-whitespace .ensures) in
+    let none = sym (c .before .has-header .ensures) ∙ c .if1 .left in
+    rw (sym a, none)
 
 pub opening-of-spec : {M : Type 1} → statement M
 opening-of-spec =
@@ -40,8 +61,10 @@ opening-of-spec =
     (tie.spec
     skip-whitespace-requires
     comments-and-newlines-requires
+    has-header-requires
     slice-aggregate-word
     word-requires
-    returns
     after-p-requires
-    returns-2)
+    returns
+    returns-2
+    returns-3)

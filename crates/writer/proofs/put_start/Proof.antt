@@ -39,6 +39,18 @@ put-bytes-requires-3 c κs =
     let f = told .enum-told3 .given .1 in
     rw f at (told .before .before .before .pre)
 
+enum-told-4 : tie.Need-enum-told-4
+enum-told-4 c = search needs
+
+slice-aggregate-put-bytes-4 : tie.Need-slice-aggregate-put-bytes-4
+slice-aggregate-put-bytes-4 c = search needs
+
+put-bytes-requires-4 : tie.Need-put-bytes-requires-4
+put-bytes-requires-4 c κs =
+    let told = c .before .before in
+    let f = told .enum-told4 .given .1 in
+    rw f at (told .before .before .before .pre)
+
 same-length : tie.Need-same-length
 same-length c = search needs
 
@@ -66,6 +78,15 @@ returns-3 c =
     let f = put .before .before .before .enum-told3 .given .1 in
     rw f (put .put-bytes3 .ensures)
 
+same-length-4 : tie.Need-same-length-4
+same-length-4 c = search needs
+
+returns-4 : tie.Need-returns-4
+returns-4 c =
+    let put = c .before .before in
+    let f = put .before .before .before .enum-told4 .given .1 in
+    rw f (put .put-bytes4 .ensures)
+
 pub put-start-spec : {M : Type 1} → statement M
 put-start-spec =
     tie.close
@@ -79,9 +100,14 @@ put-start-spec =
     enum-told-3
     slice-aggregate-put-bytes-3
     put-bytes-requires-3
+    enum-told-4
+    slice-aggregate-put-bytes-4
+    put-bytes-requires-4
     same-length
     returns
     same-length-2
     returns-2
     same-length-3
-    returns-3)
+    returns-3
+    same-length-4
+    returns-4)

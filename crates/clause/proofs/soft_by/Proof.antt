@@ -1,0 +1,24 @@
+-- `clause::soft_by` meets its contract: the weight is 0, or it is not. Assumes nothing.
+use mathlib.Core.Path.{sym, _∙_}
+use borrow.Author.Needs.{needs}
+use Rattle.clause.proofs.soft_by.Statement.{statement}
+use Rattle.clause.proofs.soft_by.Tie as tie
+
+is-zero-requires : tie.Need-is-zero-requires
+is-zero-requires c κs = search needs
+
+refuse-requires : tie.Need-refuse-requires
+refuse-requires c κs = search needs
+
+returns : tie.Need-returns
+returns c = let zero = sym (c .before .before .is-zero .ensures) ∙ c .before .if1 .taken in let r = c .refuse .ensures in rw (zero, r)
+
+start-by-requires : tie.Need-start-by-requires
+start-by-requires c κs = search needs
+
+returns-2 : tie.Need-returns-2
+returns-2 c = let other = sym (c .before .before .is-zero .ensures) ∙ c .before .if1 .left in rw other (c .start-by .ensures)
+
+pub soft-by-spec : {M : Type 1} → statement M
+soft-by-spec =
+    tie.close (tie.spec is-zero-requires refuse-requires returns start-by-requires returns-2)
