@@ -14,9 +14,9 @@ import sys
 
 sys.path.append(str(pathlib.Path(__file__).resolve().parent.parent / "tools"))
 import frames
-from frames import CLAUSE, HEADER
+from frames import CLAUSE, HARD_CLAUSE, HEADER
 
-FORMATS = range(3)
+PLAIN, WEIGHTED, GROUPED, WEIGHTED_2022 = FORMATS = 0, 1, 2, 4
 
 CEILING = 2**31 - 1
 LOWEST = -(2**31)
@@ -38,8 +38,9 @@ def shown(path):
 def long_line(format, kind, numbers, lits):
     """How long the line would be: only to choose lengths of the output beside it."""
     if kind == HEADER:
-        return len("p cnf" + " %d %d" % tuple(numbers[:2]) + "\n") + (format != 0) * len("w %d" % numbers[2])
-    return [0, len("%d " % numbers[0]), len("{%d} " % numbers[0])][format] + sum(len("%d " % lit) for lit in lits) + len("0\n")
+        return len("p cnf" + " %d %d" % tuple(numbers[:2]) + "\n") + (format != PLAIN) * len("w %d" % numbers[2])
+    lead = {PLAIN: "", GROUPED: "{%d} " % numbers[0]}.get(format, "h " if kind == HARD_CLAUSE else "%d " % numbers[0])
+    return len(lead) + sum(len("%d " % lit) for lit in lits) + len("0\n")
 
 
 def limits():
@@ -54,27 +55,30 @@ def limits():
         for place in range(3):
             for count in COUNTS:
                 yield from around(format, HEADER, [count if place == at else 3 for at in range(3)])
-        for extra in COUNTS:
-            yield from around(format, CLAUSE, [extra, 0, 0], [1, -2])
-        for lit in LITERALS:
-            yield from around(format, CLAUSE, [7, 0, 0], [lit])
-        yield from around(format, CLAUSE, [7, 0, 0])
-        yield from around(format, CLAUSE, [7, 0, 0], LITERALS)
-        yield from around(format, CLAUSE, [7, 0, 0], [1] * 100)
+        for kind in (CLAUSE, HARD_CLAUSE) if format == WEIGHTED_2022 else (CLAUSE,):
+            for extra in COUNTS:
+                yield from around(format, kind, [extra, 0, 0], [1, -2])
+            for lit in LITERALS:
+                yield from around(format, kind, [7, 0, 0], [lit])
+            yield from around(format, kind, [7, 0, 0])
+            yield from around(format, kind, [7, 0, 0], LITERALS)
+            yield from around(format, kind, [7, 0, 0], [1] * 100)
         # What is judged first, with an output that is long enough and with none.
         for length in 0, 200:
             for count in CEILING, CEILING + 1:
                 yield frames.call(format, HEADER, length, [count, 0, 0])
             for bad in BAD:
                 for lits in [bad], [1, bad, 2], [1, 2, bad], [-1, bad, 0, LOWEST]:
-                    yield frames.call(format, CLAUSE, length, [7, 0, 0], lits)
-        # What a header does not look at, and a plain clause.
+                    for kind, extra in (CLAUSE, 7), (CLAUSE, 0), (HARD_CLAUSE, 7):
+                        yield frames.call(format, kind, length, [extra, 0, 0], lits)
+        # What a header does not look at, a plain clause, and a hard one.
         yield frames.call(format, HEADER, 200, [1, 2, 3], [0, LOWEST])
-        yield frames.call(format, CLAUSE, 200, [2**64 - 1, 2**64 - 1, 2**64 - 1], [1])
+        for kind in CLAUSE, HARD_CLAUSE:
+            yield frames.call(format, kind, 200, [2**64 - 1, 2**64 - 1, 2**64 - 1], [1])
         # Lengths that count as the longest, and none.
         for length in 0, 1, 2, LONGEST_OUTPUT, LONGEST_OUTPUT + 1, 2**32 - 1:
             yield frames.call(format, CLAUSE, length, [7, 0, 0])
-    for format, kind in (3, HEADER), (3, CLAUSE), (255, CLAUSE), (0, 2), (2, 255), (4, 4):
+    for format, kind in (3, HEADER), (3, CLAUSE), (255, CLAUSE), (0, 3), (2, 255), (4, 4):
         yield frames.call(format, kind, 200, [CEILING + 1, 0, 0], [0])
     # The most literals, and one more.
     yield frames.call(0, CLAUSE, 2 * MOST_LITERALS + 1, [0, 0, 0], [1] * MOST_LITERALS)
@@ -109,11 +113,12 @@ def some(count, seed):
         return draw.choice((1, -1)) * max(1, draw.getrandbits(draw.randrange(1, 32)))
 
     for _ in range(count):
-        format, kind = draw.choice(FORMATS), draw.choice((HEADER, CLAUSE))
+        format = draw.choice(FORMATS)
+        kind = draw.choice((HEADER, CLAUSE, HARD_CLAUSE) if format == WEIGHTED_2022 else (HEADER, CLAUSE))
         numbers, lits = [number(), number(), number()], []
         if kind == HEADER and draw.random() < 0.8:
             numbers[0] %= CEILING + 1
-        elif kind == CLAUSE:
+        elif kind != HEADER:
             if draw.random() < 0.9:
                 numbers[1:] = 0, 0
             many = draw.random()
@@ -123,7 +128,7 @@ def some(count, seed):
         exact = long_line(format, kind, numbers, lits)
         length = draw.choice((exact - 1, exact, exact + 1, exact + draw.randrange(300), draw.randrange(exact + 1), draw.choice((0, LONGEST_OUTPUT, 2**32 - 1))))
         if draw.random() < 0.01:
-            format, kind = draw.choice(((3, kind), (draw.randrange(256), kind), (format, 2), (format, draw.randrange(256))))
+            format, kind = draw.choice(((3, kind), (draw.randrange(256), kind), (format, HARD_CLAUSE), (format, draw.randrange(256))))
         yield frames.call(format, kind, length, numbers, lits)
 
 

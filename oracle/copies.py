@@ -1,5 +1,5 @@
 #!/usr/bin/env python3
-"""Writes what crates/copy_cases must print, with the crate's writers and readers in place of ours.
+"""Writes what crates/copy_cases must print, with the crate's writers and readers in place of ours, and in the 2022 form those of weighted2022.py.
 
 Usage: copies.py >STDOUT
 
@@ -13,11 +13,14 @@ import subprocess
 import sys
 
 import calls
+import weighted2022
 
 sys.path.append(str(pathlib.Path(__file__).resolve().parent.parent / "tools"))
 import frames
 
 PLAIN, WEIGHTED, GROUPED = FORMATS = range(3)
+WEIGHTED_2022 = weighted2022.FORMAT
+HARD = 0
 CEILING = 2**31 - 1
 LARGEST = 2**64 - 1
 
@@ -41,6 +44,10 @@ FORMULAS += [
     (PLAIN, (1024, 1, 0), [(0, LONG)]),
     (WEIGHTED, (1024, 1, LARGEST), [(LARGEST, LONG)]),
     (GROUPED, (1024, 1, LARGEST), [(LARGEST, LONG)]),
+    (WEIGHTED_2022, None, [(HARD, [1, -3]), (9, [CEILING, -CEILING]), (HARD, []), (100, []), (LARGEST, [-2])]),
+    (WEIGHTED_2022, None, []),
+    (WEIGHTED_2022, None, [(HARD, LONG)]),
+    (WEIGHTED_2022, None, [(LARGEST, LONG)]),
 ]
 
 here = os.path.dirname(os.path.abspath(__file__))
@@ -60,10 +67,26 @@ def line(answer):
     return bytes.fromhex(line.decode())
 
 
-for format, header, clauses in FORMULAS:
+def copied(format, header, clauses):
+    """A formula's text, and what is read of it in both modes."""
     lines = [frames.call(format, frames.HEADER, calls.LONGEST_OUTPUT, header)] if header else []
     lines += [frames.call(format, frames.CLAUSE, calls.LONGEST_OUTPUT, (extra, 0, 0), lits) for extra, lits in clauses]
     text = b"".join(map(line, answers(lines, "written")))
-    strict, lenient = answers(frames.case(format, mode, 1024, text) for mode in (0, 1))
-    name = (b"plain", b"weighted", b"grouped")[format]
+    return text, *answers(frames.case(format, mode, 1024, text) for mode in (0, 1))
+
+
+def copied_in_2022(clauses):
+    lines = []
+    for extra, lits in clauses:
+        kind = frames.HARD_CLAUSE if extra == HARD else frames.CLAUSE
+        (said,) = weighted2022.written(kind, calls.LONGEST_OUTPUT, (extra, 0, 0), lits)
+        lines.append(line(said.encode()))
+    text = b"".join(lines)
+    read = "".join(f"{said}\n" for said in weighted2022.transcript(text, 1024)).encode()
+    return text, read, read
+
+
+for format, header, clauses in FORMULAS:
+    text, strict, lenient = copied_in_2022(clauses) if format == WEIGHTED_2022 else copied(format, header, clauses)
+    name = {PLAIN: b"plain", WEIGHTED: b"weighted", GROUPED: b"grouped", WEIGHTED_2022: b"weighted2022"}[format]
     sys.stdout.buffer.write(b"%s %d bytes\n%sstrict\n%slenient\n%s" % (name, len(text), text, strict, lenient))

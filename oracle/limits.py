@@ -1,9 +1,9 @@
 #!/usr/bin/env python3
 """Writes frames with each number of each format at its limit and beside it, and short rows of lines.
 
-Usage: limits.py >FRAMES
+Usage: limits.py [2022] >FRAMES
 
-Each number of a text has a place, marked # below. It is given every value around every limit, with and
+They are those of the formats that flussab-cnf has, or of the 2022 weighted form. Each number of a text has a place, marked # below. It is given every value around every limit, with and
 without leading zeros, followed by a blank or by a letter, in both modes. Rooms go from none to more than is
 needed, and words that a reader stops at from 59 bytes to 62. Lines of each format come in every order, two of
 a formula and three of a log.
@@ -27,12 +27,13 @@ TEXTS = {
     2: ["p gcnf # 1 2\n{1} 1 0\n", "p gcnf 3 # 2\n{1} 1 0\n", "p gcnf 3 1 #\n{1} 1 0\n", "p gcnf 3 1 2\n{#} 1 0\n",
         "p gcnf 3 1 2\n{1} # 0\n", "p gcnf 0 1 0\n{#} 1 0\n", "p gcnf 0 1 0\n{1} -# 0\n", "{#} 1 0\n", "{1} # 0\n"],
     3: ["s SATISFIABLE\nv # 0\n", "s SATISFIABLE\nv -# 0\n", "v 1 #\nv 0\n"],
+    4: ["# 1 0\n", "h # 0\n", "7 -# 0\n", "7 1 #\n", "h 1 0\n#\n1 0\n"],
 }
 
 VALUES = [0, 1, 2, 3, 4, CEILING - 1, CEILING, CEILING + 1, 2 * CEILING + 1, 2 * CEILING + 2, LARGEST - 1, LARGEST, LARGEST + 1, 10 * LARGEST, 10**30]
 
 # Texts of three literals, for room.
-ROOMS = {0: "1 -2 3 0\n", 1: "7 1 -2 3 0\n", 2: "{7} 1 -2 3 0\n", 3: "v 1 -2\nv 3 0\n"}
+ROOMS = {0: "1 -2 3 0\n", 1: "7 1 -2 3 0\n", 2: "{7} 1 -2 3 0\n", 3: "v 1 -2\nv 3 0\n", 4: "h 1 -2 3 0\n"}
 
 # Lines of a format, and how many of them stand in a row.
 LINES = {
@@ -40,7 +41,10 @@ LINES = {
     1: (["p wcnf 2 1 3\n", "5 1 0\n", "5 1\n", "0\n", "c x\n", "\r\n", "5 1 0 2 0\n", "5\n"], 2),
     2: (["p gcnf 2 1 1\n", "{1} 1 0\n", "{1} 1\n", "0\n", "c x\n", "\r\n", "{1}1 0 2 0\n", "{2} 1 0\n"], 2),
     3: (["s SATISFIABLE\n", "s UNKNOWN\n", "v 1\n", "v -2 0\n", "c x\n", "x\n"], 3),
+    4: (["p wcnf 2 1 3\n", "h 1 0\n", "5 1\n", "0\n", "c x\n", "\r\n", "h 1 0 h 2 0\n", "h\n", "h1 0\n"], 2),
 }
+
+WANTED = [4] if sys.argv[1:] == ["2022"] else [0, 1, 2, 3]
 
 
 def write(format, mode, room, text):
@@ -48,8 +52,8 @@ def write(format, mode, room, text):
 
 
 for mode in 0, 1:
-    for format, texts in TEXTS.items():
-        for text in texts:
+    for format in WANTED:
+        for text in TEXTS[format]:
             for value in VALUES:
                 write(format, mode, 8, text.replace("#", str(value)))
             for number in "0" * 30 + "1", "0" + str(CEILING), "0" + str(LARGEST), "0" * 30 + str(LARGEST + 1), str(CEILING) + "x", str(10**30) + "x":
@@ -63,5 +67,5 @@ for mode in 0, 1:
         for count in range(most + 1):
             for row in itertools.product(lines, repeat=count):
                 write(format, mode, 8, "".join(row))
-for format, mode in (4, 0), (255, 1), (0, 2), (3, 255):
+for format, mode in ((4, 2), (4, 255)) if WANTED == [4] else ((5, 0), (255, 1), (0, 2), (3, 255)):
     write(format, mode, 8, "1 0\n")

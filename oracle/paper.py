@@ -1,11 +1,11 @@
 #!/usr/bin/env python3
-"""The texts of document 01 with their answers, written out by hand from it and not from any code.
+"""The texts of document 01, and those of the 2022 weighted form, with their answers, written out by hand from the documents and not from any code.
 
 Usage: paper.py DIRECTORY
 
-The frames go to DIRECTORY/stdin and the answers, as a transcript, to DIRECTORY/stdout.
+The frames go to DIRECTORY/stdin and the answers, as a transcript, to DIRECTORY/stdout; those of the 2022 form to DIRECTORY/2022/stdin and stdout.
 
-They are the texts marked P, the others of "Texts on both sides", the listing's text, and the slips. A text is there in the format and mode that document 01 names for
+Document 01's are the texts marked P, the others of "Texts on both sides", the listing's text, and the slips. A text is there in the format and mode that document 01 names for
 it. For a slip it names none: its text is there in every format and both modes, and so is the same slip in the form of a weighted text, a grouped text and a log.
 """
 
@@ -16,7 +16,7 @@ import sys
 sys.path.append(str(pathlib.Path(__file__).resolve().parent.parent / "tools"))
 import frames
 
-PLAIN, WEIGHTED, GROUPED, LOG = range(4)
+PLAIN, WEIGHTED, GROUPED, LOG, WEIGHTED_2022 = range(5)
 STRICT, LENIENT = range(2)
 
 # The room that the tray and the host calls have.
@@ -25,8 +25,9 @@ ROOM = 1024
 NONE = "header none"
 UNKNOWN = "verdict unknown", "literals"
 
-# Each case: format, mode, room, text, and the lines that must follow its `case N`.
+# Each case: format, mode, room, text, and the lines that must follow its `case N`. The second list has those of the 2022 form, which the crate has not.
 CASES = []
+IN_2022 = []
 
 
 def refused(number, place, k=0, word=b""):
@@ -41,6 +42,12 @@ def both(text, *lines, format):
     """The modes read alike."""
     for mode in STRICT, LENIENT:
         case(text, *lines, format=format, mode=mode)
+
+
+def in_2022(text, *lines):
+    """A text of the 2022 form, which has no header, and which the modes read alike."""
+    for mode in STRICT, LENIENT:
+        IN_2022.append((WEIGHTED_2022, mode, ROOM, text, (NONE, *lines)))
 
 
 def slip(text, plain, weighted, grouped):
@@ -103,16 +110,45 @@ slip(NINES, (NONE, refused(15, 0, 0, NINES)), (NONE, refused(13, 0, 0, NINES)), 
 both(b"{" + NINES + b"} 1 0", NONE, refused(14, 0, 0, b"{" + NINES + b"}"), format=GROUPED)
 both(b"v 1 " + NINES, refused(15, 4, 1, NINES), format=LOG)
 
+# The 2022 form.
+in_2022(b"h 1 0", "clause h: 1", "end")
+in_2022(b"h\n1 0", "clause h: 1", "end")
+in_2022(b"h 0", "clause h:", "end")
+in_2022(b"h", refused(8, 1))
+in_2022(b"h1 0", refused(9, 0, 0, b"h1"))
+in_2022(b"5 1 -2 0", "clause 5: 1 -2", "end")
+in_2022(b"0 1 0", refused(32, 0, 0, b"0"))
+in_2022(b"000 1 0", refused(32, 0, 0, b"000"))
+in_2022(b"0", refused(32, 0, 0, b"0"))
+in_2022(b"18446744073709551615 1 0", "clause 18446744073709551615: 1", "end")
+in_2022(b"18446744073709551616 1 0", refused(13, 0, 0, b"18446744073709551616"))
+in_2022(b"-0 1 0", refused(9, 0, 0, b"-0"))
+in_2022(b"+5 1 0", refused(9, 0, 0, b"+5"))
+in_2022(b"0x 1 0", refused(9, 0, 0, b"0x"))
+in_2022(b"p wcnf 1 1 1\n", refused(33, 0, 0, b"p"))
+in_2022(b"c x\np", refused(33, 4, 0, b"p"))
+in_2022(b"pcnf", refused(9, 0, 0, b"pcnf"))
+in_2022(b"1 1 0\np", "clause 1: 1", refused(33, 6, 0, b"p"))
+in_2022(b"7\nc x\n1 0", "clause 7: 1", "end")
+in_2022(b"7 1 0 h 2 0", refused(5, 6, 1, b"h"))
+in_2022(b"h 2147483648 0", refused(15, 2, 0, b"2147483648"))
+in_2022(b"", "end")
+
+
+def write(directory, cases):
+    os.makedirs(directory, exist_ok=True)
+    with open(os.path.join(directory, "stdin"), "wb") as given, open(os.path.join(directory, "stdout"), "w") as said:
+        for number, (*one, lines) in enumerate(cases):
+            given.write(frames.case(*one))
+            said.write("".join(f"{line}\n" for line in (f"case {number}", *lines)))
+
 
 def main():
     if len(sys.argv) != 2:
         sys.exit(__doc__)
-    os.makedirs(sys.argv[1], exist_ok=True)
-    with open(os.path.join(sys.argv[1], "stdin"), "wb") as given, open(os.path.join(sys.argv[1], "stdout"), "w") as said:
-        for number, (*one, lines) in enumerate(CASES):
-            given.write(frames.case(*one))
-            said.write("".join(f"{line}\n" for line in (f"case {number}", *lines)))
-    print(f"{len(CASES)} cases of document 01")
+    write(sys.argv[1], CASES)
+    write(os.path.join(sys.argv[1], "2022"), IN_2022)
+    print(f"{len(CASES)} cases of document 01, {len(IN_2022)} of the 2022 form")
 
 
 if __name__ == "__main__":

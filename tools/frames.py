@@ -9,6 +9,9 @@ import struct
 # The longest text, and the longest area of a tray, that a program takes.
 LONGEST = 65536
 
+# The most room for literals that a program has.
+MOST_ROOM = 4096
+
 # A text for the readers: format, mode, room for literals, length; then the text.
 CASE = struct.Struct("<BBII")
 
@@ -17,7 +20,7 @@ HOST_CASE = struct.Struct("<III")
 
 # A call of a writer: format, kind, length of the output, three numbers, count of literals; then the literals.
 CALL = struct.Struct("<BBIQQQI")
-HEADER, CLAUSE = range(2)
+HEADER, CLAUSE, HARD_CLAUSE = range(3)
 
 # A text for the tokens: its length in a byte, and the text; then place and limit.
 PLACE = struct.Struct("<QQ")
@@ -51,17 +54,22 @@ def cases(path):
 
 def answers(path):
     """The lines of each case of a transcript after its `case N`."""
-    lines = None
     with open(path, "rb") as file:
-        for line in file:
-            if line.startswith(b"case "):
-                if lines is not None:
-                    yield lines
-                lines = []
-            elif lines is None:
-                lines = [line]
-            else:
-                lines.append(line)
+        yield from answers_in(file)
+
+
+def answers_in(file):
+    """The same of a transcript that is open."""
+    lines = None
+    for line in file:
+        if line.startswith(b"case "):
+            if lines is not None:
+                yield lines
+            lines = []
+        elif lines is None:
+            lines = [line]
+        else:
+            lines.append(line)
     if lines is not None:
         yield lines
 

@@ -29,7 +29,7 @@ def expect(holds, what):
 
 
 def bad_words(folder):
-    for words in ([], ["plain"], ["plain", "strict"], ["cnf", "strict", folder], ["plain", "odd", folder], ["plain", "strict", folder, folder], ["--header", "log", "strict", folder], ["--header", "plain", "strict"]):
+    for words in ([], ["plain"], ["plain", "strict"], ["cnf", "strict", folder], ["plain", "odd", folder], ["plain", "strict", folder, folder], ["--header", "log", "strict", folder], ["--header", "weighted2022", "strict", folder], ["--header", "plain", "strict"]):
         status, said, told = run(*words)
         expect((status, said) == (2, "") and told.startswith("usage: queue "), f"{words}: {status} {told}")
     status, _, told = run("plain", "strict", f"{folder}/none")
@@ -43,6 +43,8 @@ def formats(folder):
         ("grouped", "lenient", b"p gcnf 1 1 1\n{2} 1 0\n", None),
         ("log", "strict", b"s SATISFIABLE\nv 1 0\n", None),
         ("log", "lenient", b"v 1\n", 19),
+        ("weighted2022", "strict", b"h 1 0\n5 -1 0\n", None),
+        ("weighted2022", "lenient", b"p wcnf 1 1 1\n", 33),
     ):
         name = f"{format}-{mode}"
         write(f"{folder}/{name}", text)

@@ -7,7 +7,7 @@ use Rattle.writer.specs.Answers.{lineLength}
 use Rattle.writer.specs.declared.Written.{Written}
 
 -- What a text from a place on is, as it is lent.
-abbrev pub rest : List ℕ → ℕ → List ℕ
+abbrev rest : List ℕ → ℕ → List ℕ
 rest text at = take (length text - at) (drop at text)
 
 pub ends-within : (text : List ℕ) (at : ℕ) (r : Written) → at ≤ length text → lineLength r ≤ length (rest text at) → at + lineLength r ≤ length text

@@ -10,12 +10,14 @@ ghost use Rattle.pages.specs.Pages.{Lays};
 ghost use Rattle.copy_cases.specs.Titles.{formatName, titleLine};
 use clause::Next;
 use dimacs::Format;
+use dimacs::HARD;
 use dimacs::Header;
 use dimacs::LARGEST;
 use dimacs::Mode;
 use dimacs::Opening;
 use dimacs::ROOM;
 use dimacs::Refusal;
+use dimacs::has_hard;
 use formula::Cursor;
 use writer::Written;
 
@@ -25,7 +27,7 @@ const TEXT: usize = 65536;
 // The longest line: a clause with a group of 20 digits and as many literals as there is room for, each a space, a sign and ten digits.
 const PAGE: usize = 31 + 12 * ROOM;
 
-// A formula but for its clauses. Those are two lists: the weights or groups, all 0 where the format has none, and the literals, a 0 after each clause.
+// A formula but for its clauses. Those are two lists: the weights or groups, 0 where a clause has none, and the literals, a 0 after each clause.
 struct Formula {
     format: Format,
     headed: bool,
@@ -65,15 +67,22 @@ fn put_header(text: &mut [u8], f: Formula) -> usize
     0
 }
 
+// A clause written by the call for its kind.
+fn write_clause(format: Format, extra: u64, lits: &[i32], out: &mut [u8]) -> Written
+    ensures { λ r. ⌜ lineLength r ≤ length (now (out .entry)) ⌝ }
+{
+    if extra == HARD && has_hard(format) {
+        return writer::write_hard_clause(format, lits, out);
+    }
+    writer::write_clause(format, extra, lits, out)
+}
+
 // A clause written at a place, and the place past it.
 fn put_clause(text: &mut [u8], at: usize, format: Format, extra: u64, lits: &[i32]) -> usize
     requires { ⌜ at ≤ length (now text) ⌝ }
     ensures { λ r. ⌜ r ≤ length (now (text .entry)) ⌝ }
 {
-    past_line(
-        at,
-        writer::write_clause(format, extra, lits, &mut text[at..]),
-    )
+    past_line(at, write_clause(format, extra, lits, &mut text[at..]))
 }
 
 // Where the 0 stands that ends the clause at a place.
@@ -381,12 +390,25 @@ fn grouped(page: &mut [u8; PAGE]) {
     );
 }
 
-// No line at all, and a header alone.
-fn empty(page: &mut [u8; PAGE], format: Format) {
+fn weighted_2022(page: &mut [u8; PAGE]) {
+    copied(
+        page,
+        bare(Format::Weighted2022),
+        &[HARD, 9, HARD, 100, LARGEST],
+        &[1, -3, 0, 2147483647, -2147483647, 0, 0, 0, -2, 0],
+    );
+}
+
+// A formula of no clauses.
+fn no_clauses(page: &mut [u8; PAGE], f: Formula) {
     let none = [0u64; 0];
     let given = [0i32; 0];
-    copied(page, bare(format), &none, &given);
-    copied(page, headed(format, 0, 0, 0), &none, &given);
+    copied(page, f, &none, &given);
+}
+
+fn empty(page: &mut [u8; PAGE], format: Format) {
+    no_clauses(page, bare(format));
+    no_clauses(page, headed(format, 0, 0, 0));
 }
 
 // A clause that takes all the room.
@@ -409,6 +431,10 @@ fn copies(page: &mut [u8; PAGE]) {
     long(page, headed(Format::Plain, 1024, 1, 0), 0);
     long(page, headed(Format::Weighted, 1024, 1, LARGEST), LARGEST);
     long(page, headed(Format::Grouped, 1024, 1, LARGEST), LARGEST);
+    weighted_2022(page);
+    no_clauses(page, bare(Format::Weighted2022));
+    long(page, bare(Format::Weighted2022), HARD);
+    long(page, bare(Format::Weighted2022), LARGEST);
 }
 
 fn main() {

@@ -41,15 +41,18 @@ module _ {s : List ℕ} (v c : ℕ) (t : List ℕ) where
       let u = digits n ++ (10 ∷ t) in
       rw (uint-written c (32 ∷ u) h largest (parted n (10 ∷ t)) k) (third-written n e (ends-after (digits c) 32 u h))
 
+  counted-last : c ≤ largest → Ends s (digits c ++ (code "\n" ∷ t))
+      → clauseCount s Plain v (start s (digits c ++ (code "\n" ∷ t))) ≡ opening.Header (headerOf v c 0) (start s t)
+  unfolding clauseCount thirdCount
+  counted-last k h = rw (uint-written c (10 ∷ t) h largest line k) (header-end-written (headerOf v c 0) t (ends-past (digits c) (10 ∷ t) h))
+
   clauses-written : (f : Format) (n : ℕ) → ThirdFits f n → c ≤ largest → Ends s (digits c ++ (thirdDigits f n ++ (code "\n" ∷ t)))
       → clauseCount s f v (start s (digits c ++ (thirdDigits f n ++ (code "\n" ∷ t)))) ≡ opening.Header (headerOf v c n) (start s t)
   unfolding clauseCount thirdCount
-  clauses-written Plain n e k h =
-      rw (uint-written c (10 ∷ t) h largest line k, e) (header-end-written (headerOf v c 0) t (ends-past (digits c) (10 ∷ t) h))
-  clauses-written Weighted2022 n e k h =
-      rw (uint-written c (10 ∷ t) h largest line k, e) (header-end-written (headerOf v c 0) t (ends-past (digits c) (10 ∷ t) h))
+  clauses-written Plain n e k h = rw e (counted-last k h)
   clauses-written Weighted n e k h = counted-third n e k h
   clauses-written Grouped n e k h = counted-third n e k h
+  clauses-written Weighted2022 n e k h = rw e (counted-last k h)
 
 -- The counts of a header and the end of its line, before what follows.
 abbrev counts : Format → Header → List ℕ → List ℕ

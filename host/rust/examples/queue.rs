@@ -3,11 +3,11 @@
 //!
 //!     queue [--header] FORMAT MODE FOLDER
 //!
-//! FORMAT is plain, weighted, grouped or log; MODE is strict or lenient. The orders are the regular files of FOLDER, taken in the order of their names. Names that
+//! FORMAT is plain, weighted, grouped, log or weighted2022; MODE is strict or lenient. The orders are the regular files of FOLDER, taken in the order of their names. Names that
 //! begin with `.` or end in `.reason` are no orders: write an order under such a name, and rename it when it is whole. Folders are passed over.
 //!
 //! By the formats, a text without a header is a formula, also one of no bytes, as a copy that failed may leave it; and a header's count of 0 leaves it open how much
-//! follows. With `--header` such texts are refused too. Logs have no header.
+//! follows. With `--header` such texts are refused too. Logs and texts of the 2022 form have no header.
 //!
 //! The program takes the orders that are there when it starts, and stops. An order that cannot be read or moved stays and is named on standard error, as is a link, a
 //! pipe or whatever else is no file. Exit status: 0 if nothing stayed, 1 if something did, 2 if the words are wrong or the folder cannot be used.
@@ -30,7 +30,7 @@ use std::path::{Path, PathBuf};
 use std::process::ExitCode;
 
 const USAGE: &str =
-    "usage: queue [--header] plain|weighted|grouped strict|lenient FOLDER, or queue log strict|lenient FOLDER";
+    "usage: queue [--header] plain|weighted|grouped strict|lenient FOLDER, or queue log|weighted2022 strict|lenient FOLDER";
 
 /// What the name of a reason ends in, and the name it has while it is written.
 const REASON: &str = ".reason";
@@ -77,6 +77,7 @@ fn asked(words: &[OsString]) -> Option<Queue> {
         "weighted" => Format::Weighted,
         "grouped" => Format::Grouped,
         "log" if !header => Format::Log,
+        "weighted2022" if !header => Format::Weighted2022,
         _ => return None,
     };
     let mode = match mode {
@@ -207,7 +208,7 @@ fn header_counts(format: Format, text: &[u8]) -> Result<(), &'static str> {
         Format::Plain => (Format::Grouped, 2),
         Format::Weighted => (Format::Plain, 2),
         Format::Grouped => (Format::Plain, 3),
-        Format::Log => return Ok(()),
+        Format::Log | Format::Weighted2022 => return Ok(()),
     };
     let place = match check(another, Mode::Lenient, text) {
         Err(Refusal { number: 1, place }) => place,

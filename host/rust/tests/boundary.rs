@@ -4,11 +4,12 @@ use latchtwig::{check, check_by_number, Format, Mode, Refusal};
 use std::error::Error;
 use std::{env, fs, thread};
 
-const FORMATS: [Format; 4] = [
+const FORMATS: [Format; 5] = [
     Format::Plain,
     Format::Weighted,
     Format::Grouped,
     Format::Log,
+    Format::Weighted2022,
 ];
 const MODES: [Mode; 2] = [Mode::Strict, Mode::Lenient];
 const MEGABYTE: usize = 1 << 20;
@@ -149,6 +150,8 @@ fn megabytes() {
         (Format::Weighted, "5 1 -2 3 0\n"),
         (Format::Grouped, "{7} 1 -2 3 0\n"),
         (Format::Log, "c 1 -2 3 0\n"),
+        (Format::Weighted2022, "h 1 -2 3 0\n"),
+        (Format::Weighted2022, "5 1 -2 3 0\n"),
         (Format::Plain, "c a comment\n"),
         (Format::Plain, "\r\n"),
         (Format::Plain, " "),
@@ -190,6 +193,8 @@ fn empty_clauses() {
     assert_eq!(check(Format::Grouped, Mode::Strict, &text), refused(9, 0));
     assert_eq!(check(Format::Log, Mode::Strict, &text), refused(18, 0));
     assert_eq!(check(Format::Log, Mode::Lenient, &text), Ok(()));
+    let weight_zero = check(Format::Weighted2022, Mode::Lenient, &text);
+    assert_eq!(weight_zero, refused(32, 0));
 }
 
 #[test]

@@ -11,12 +11,12 @@ pub fn write(frames: &mut Frames) -> io::Result<()> {
     // Unknown formats and modes, with a text that would be refused for itself, and one too long.
     for format in 0..=255 {
         for mode in [0, 1, 2, 3, 127, 128, 255] {
-            if format > 3 || mode > 1 {
+            if format > 4 || mode > 1 {
                 frames.put(format, mode, AMPLE, b"x")?;
             }
         }
     }
-    frames.put(4, 0, AMPLE, &[b'\n'; LONGEST + 1])?;
+    frames.put(5, 0, AMPLE, &[b'\n'; LONGEST + 1])?;
 
     for format in 0..4 {
         for mode in 0..2 {

@@ -3,8 +3,7 @@ use Prim.Native.Nat.{_+_, _≤_}
 use native.Mathlib.Omega.{arith}
 use lib.ListN.{length}
 use Rattle.writer.specs.Answers.{lineLength}
-use Rattle.writer.proofs.Lines.{clause-within, line-within}
-use Rattle.copy_cases.proofs.Ends.{rest, ends-within}
+use Rattle.copy_cases.proofs.Ends.{ends-within}
 use borrow.Author.Needs.{needs}
 use Rattle.copy_cases.proofs.put_clause.Statement.{statement}
 use Rattle.copy_cases.proofs.put_clause.Tie as tie
@@ -15,7 +14,7 @@ start c = c .before .before .before
 line-ends-within : (c : tie.After-write-clause) → start c .args .at + lineLength (c .write-clause .result) ≤ length (start c .args .text .now)
 line-ends-within c =
     let s = start c in
-    ends-within (s .args .text .now) (s .args .at) (c .write-clause .result) (s .pre) (line-within (clause-within _ _ _ (length (rest (s .args .text .now) (s .args .at)))) (c .write-clause .ensures))
+    ends-within (s .args .text .now) (s .args .at) (c .write-clause .result) (s .pre) (c .write-clause .ensures)
 
 sub-write-clause : tie.Need-sub-write-clause
 sub-write-clause c = search needs
