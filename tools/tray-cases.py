@@ -1,5 +1,5 @@
 #!/usr/bin/env python3
-"""Holds the program `tray_cases` to a tray and a reader that are written here, from document 01 and not from the code.
+"""Holds the program `tray_cases` to a tray and a reader that are written here, from documents 01 and 02 and not from the code.
 
 tray-cases.py [--runs N] [--calls N] [--seed N]   makes random runs of calls, gives each to ./run tray_cases, and compares what it prints line by line
 tray-cases.py --slips                             gives a run to wrong trays and wrong readers, each of which must differ from what the program prints
@@ -7,7 +7,7 @@ tray-cases.py --sample DIR                        writes DIR/stdin, a run with e
                                               the tray here says of it
 
 The tray here is a plain list of jobs, and the reader goes by regular expressions, so that a slip in the definition or the code and the same
-slip here are unlikely to meet. The refusal numbers are document 01's, and not read from host/refusals.txt. 25 is not reached: it takes 2^64 - 1 tickets. The exit status is 1 if anything is not as it must be.
+slip here are unlikely to meet. The refusal numbers are the documents', and not read from host/refusals.txt. 25 is not reached: it takes 2^64 - 1 tickets. The exit status is 1 if anything is not as it must be.
 """
 
 import argparse
@@ -21,7 +21,8 @@ import sys
 import frames
 
 ROOT = pathlib.Path(__file__).resolve().parent.parent
-PLAIN, WEIGHTED, GROUPED = range(3)
+PLAIN, WEIGHTED, GROUPED, LOG, WEIGHTED_2022 = range(5)
+FORMATS = PLAIN, WEIGHTED, GROUPED, WEIGHTED_2022
 STRICT, LENIENT = range(2)
 CEILING = 2**31 - 1
 LARGEST = 2**64 - 1
@@ -39,6 +40,7 @@ NUMBER = re.compile(rb"([0-9]+)" + WORD_ENDS)
 SIGNED = re.compile(rb"(-?[0-9]+)" + WORD_ENDS)
 BRACED = re.compile(rb"\{([0-9]+)\}[\t ]*")
 P = re.compile(rb"p" + WORD_ENDS)
+H = re.compile(rb"h" + WORD_ENDS)
 NAMES = [re.compile(name + WORD_ENDS) for name in (rb"cnf", rb"wcnf", rb"gcnf")]
 
 
@@ -77,7 +79,7 @@ class Reader:
 
     def open(self, text):
         at = skipped(text, BLANKS.match(text).end())
-        found = P.match(text, at)
+        found = self.format != WEIGHTED_2022 and P.match(text, at)
         if not found:
             self.place = at
             return "header none"
@@ -121,6 +123,32 @@ class Reader:
             return "end"
         raise Refused(9, at, 0)
 
+    def lead(self, text, at):
+        """What stands before the literals of the clause at a place, or nothing."""
+        if self.format == GROUPED:
+            return BRACED.match(text, at)
+        if self.format == WEIGHTED_2022:
+            if P.match(text, at):
+                raise Refused(33, at, 0)
+            if found := H.match(text, at):
+                return found
+        return NUMBER.match(text, at)
+
+    def told(self, found, at):
+        """The words of what was found there."""
+        if found.re is H:
+            return "h:"
+        extra = int(found[1])
+        if self.format == WEIGHTED_2022 and extra == 0:
+            raise Refused(32, at, 0)
+        if self.format == GROUPED:
+            if extra > self.group_limit:
+                raise Refused(14, at, 0)
+            return "{%d}:" % extra
+        if extra > LARGEST:
+            raise Refused(13, at, 0)
+        return "%d:" % extra
+
     def clause(self, text, at):
         """The words of the clause at a place, or nothing where none begins."""
         words = ["clause"]
@@ -129,14 +157,10 @@ class Reader:
             if not found:
                 return None
         else:
-            weighted = self.format == WEIGHTED
-            found = (NUMBER if weighted else BRACED).match(text, at)
+            found = self.lead(text, at)
             if not found:
                 return None
-            extra = int(found[1])
-            if extra > (LARGEST if weighted else self.group_limit):
-                raise Refused(13 if weighted else 14, at, 0)
-            words.append("%d:" % extra if weighted else "{%d}:" % extra)
+            words.append(self.told(found, at))
             at = found.end()
             if LINE_END.match(text, at):
                 at = skipped(text, at)
@@ -183,7 +207,7 @@ class Tray:
         self.given = 0
 
     def put(self, format, mode, start, length):
-        if format not in (PLAIN, WEIGHTED, GROUPED) or mode not in (STRICT, LENIENT):
+        if format not in FORMATS or mode not in (STRICT, LENIENT):
             return "put refused 26"
         if start + length > len(self.area):
             return "put refused 21"
@@ -358,12 +382,39 @@ class ZeroCloses(Reader):
             return super().clause(text[: refusal.args[1]], at)
 
 
+class ZeroWeight(Reader):
+    """A weight of 0 is a weight like any other in the 2022 form."""
+
+    def told(self, found, at):
+        return "0:" if found.re is NUMBER and int(found[1]) == 0 else super().told(found, at)
+
+
+class NoClauseForHeader(Reader):
+    """The word `p` is 9 in the 2022 form."""
+
+    def lead(self, text, at):
+        return None if P.match(text, at) else super().lead(text, at)
+
+
+class ShortH(Reader):
+    """The byte `h` begins a hard clause, whatever follows."""
+
+    def lead(self, text, at):
+        return super().lead(text, at) or (self.format == WEIGHTED_2022 and LOOSE_H.match(text, at))
+
+    def told(self, found, at):
+        return "h:" if found.re is LOOSE_H else super().told(found, at)
+
+
+LOOSE_H = re.compile(rb"h[\t ]*")
+
+
 def reading(wrong):
     return type(wrong.__name__, (Tray,), {"__doc__": wrong.__doc__, "reader": wrong})
 
 
 SLIPS = [FrontAgain, BehindOne, TicketReused, LastTakesItsPlace, FullFirst, BufferFirst, WholeArea, RefusedStays, OldArea]
-SLIPS += map(reading, [WideRoom, ZeroCount, ZeroCloses])
+SLIPS += map(reading, [WideRoom, ZeroCount, ZeroCloses, ZeroWeight, NoClauseForHeader, ShortH])
 
 # ---- random texts and calls
 
@@ -389,9 +440,16 @@ KINDS = [
     (GROUPED, b"p gcnf 2 2 1\n{0} 1 0\n{2} 2 0\n"),
     (GROUPED, b"p gcnf 2 2 0\n{18446744073709551615}1 0\n{18446744073709551616} 2 0\n"),
     (GROUPED, b"p gcnf 2\n"),
+    (WEIGHTED_2022, b"c order\nh 1 -2 0\n18446744073709551615 2 0\nh\n0"),
+    (WEIGHTED_2022, b"h 1 0\n000 1 0\n"),
+    (WEIGHTED_2022, b"5 1 0\np wcnf 1 1 1\n"),
+    (WEIGHTED_2022, b"h1 0\n"),
+    (WEIGHTED_2022, b"h"),
+    (WEIGHTED_2022, b"18446744073709551616 1 0\n"),
+    (WEIGHTED_2022, b"h " + b"1 " * ROOM + b"0\nh " + b"2 " * ROOM + b"-3 0\n"),
 ]
 LIMITS = [0, 1, CEILING - 1, CEILING, CEILING + 1, 2**32, LARGEST - 1, LARGEST, LARGEST + 1, 10**30]
-BYTES = b"0123456789  \t\n\n\r-cp{}xnf\x00\xff"
+BYTES = b"0123456789  \t\n\n\r-cph{}xnf\x00\xff"
 
 
 def number(rng, most):
@@ -426,6 +484,8 @@ def clause(rng, format, variables, groups):
     said = b""
     if format == WEIGHTED:
         said += digits(rng, number(rng, 50)) + gap(rng)
+    if format == WEIGHTED_2022:
+        said += rng.choice([b"h", digits(rng, rng.choice([1, 2, 3, number(rng, 50)]))]) + gap(rng)
     if format == GROUPED:
         said += b"{" + digits(rng, number(rng, groups)) + b"}" + rng.choice([b"", gap(rng), gap(rng)])
     for literal in literals(rng, variables):
@@ -446,13 +506,13 @@ def text(rng, format):
     line_end = rng.choice([b"\n", b"\n", b"\n", b"\r\n"])
     variables, groups, clauses = rng.randint(1, 30), rng.randint(1, 9), rng.choice([0, 1, 1, 2, 3, 4, 5, 8, 20])
     said = b"".join(note(rng) for _ in range(rng.choice([0, 0, 0, 1, 2])))
-    if rng.random() < 0.65:
+    if rng.random() < (0.02 if format == WEIGHTED_2022 else 0.65):
         counts = [rng.choice([variables] * 8 + [0, number(rng, 30)]), rng.choice([clauses] * 8 + [0, number(rng, 9)])]
         if format != PLAIN:
             counts.append(rng.choice([groups] * 8 + [0, number(rng, 50)]))
         if rng.random() < 0.05:
             counts = counts[: rng.randint(0, 2)]
-        name = [b"cnf", b"wcnf", b"gcnf"][format if rng.random() < 0.97 else rng.randrange(3)]
+        name = [b"cnf", b"wcnf", b"gcnf", b"", b"wcnf"][format if rng.random() < 0.97 else rng.randrange(3)]
         said += b" ".join([b"p", name, *(digits(rng, n) for n in counts)]) + line_end
     for _ in range(clauses):
         said += clause(rng, format, variables, groups) + line_end
@@ -472,7 +532,7 @@ class Feeder:
         area = b""
         kinds = rng.sample(KINDS, len(KINDS))
         while len(area) < size:
-            format = rng.randrange(3)
+            format = rng.choice(FORMATS)
             format, said = kinds.pop() if kinds and rng.random() < 0.2 else (format, text(rng, format))
             if len(area) + len(said) <= size:
                 self.parts.append((format, len(area), len(said)))
@@ -483,16 +543,16 @@ class Feeder:
 
     def put(self):
         rng, size = self.rng, len(self.tray.area)
-        format, start, length = rng.choice(self.parts or [(rng.randrange(3), 0, size)])
+        format, start, length = rng.choice(self.parts or [(rng.choice(FORMATS), 0, size)])
         mode = rng.choice([STRICT, STRICT, LENIENT])
         # A full tray is often put to with a second fault, so that the order of the tests is seen; so is an empty one asked for a turn.
         how = rng.random() * (0.2 if len(self.tray.waiting) == PLACES else 1)
         if how < 0.04:
-            format, mode = rng.choice([(3, STRICT), (255, mode), (format, 2), (format, 255), (4, 7)])
+            format, mode = rng.choice([(LOG, STRICT), (255, mode), (format, 2), (format, 255), (5, mode), (5, 7)])
         if how < 0.06 or how > 0.95:
             start, length = rng.choice([(size, 0), (size, 1), (size + 1, 0), (0, size), (0, size + 1), (LARGEST, 1), (1, LARGEST), (LARGEST, LARGEST), (2**32, 0)])
         elif how < 0.12:
-            format = rng.randrange(3)
+            format = rng.choice(FORMATS)
         elif how < 0.25:
             start = min(size, max(0, start + rng.randint(-9, 9)))
             length = max(0, length + rng.randint(-9, 60))
@@ -558,14 +618,14 @@ ODD = [b"", b"\x00\x00\x00", b"\x02\x00\x00\x00x", frames.tray_run(bytes(AREA + 
 def kind_of(line):
     """A line without what differs from ticket to ticket."""
     line = re.sub(r"^turn \d+ refused (\d+) .*", r"turn T refused \1", line)
-    line = re.sub(r"^turn \d+ clause( \d+:| \{\d+\}:)?.*", lambda m: "turn T clause" + re.sub(r"\d+", "N", m[1] or ""), line)
+    line = re.sub(r"^turn \d+ clause( \d+:| h:| \{\d+\}:)?.*", lambda m: "turn T clause" + re.sub(r"\d+", "N", m[1] or ""), line)
     line = re.sub(r"^turn \d+ ", "turn T ", line)
     return line if " refused " in line else re.sub(r"\d+", "N", line)
 
 
 WANTED = {"put N", "withdraw N", "withdraw refused 24", "turn refused 22", "turn refused 23", "turn T end", "cut"}
-WANTED |= {"put refused %d" % n for n in (20, 21, 26)} | {"turn T refused %d" % n for n in [*range(1, 17), 21]}
-WANTED |= {"turn T header" + h for h in (" none", " N N", " N N N")} | {"turn T clause" + c for c in ("", " N:", " {N}:")}
+WANTED |= {"put refused %d" % n for n in (20, 21, 26)} | {"turn T refused %d" % n for n in [*range(1, 17), 21, 32, 33]}
+WANTED |= {"turn T header" + h for h in (" none", " N N", " N N N")} | {"turn T clause" + c for c in ("", " N:", " {N}:", " h:")}
 
 
 def program(given):
