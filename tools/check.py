@@ -1,9 +1,9 @@
 """Checks files in any format and mode.
 
-usage: tools/check FORMAT MODE [FILE...]    (FORMAT plain, weighted, grouped, log or weighted2022; MODE strict or lenient)
+usage: tools/check [--list] FORMAT MODE [FILE...]    (FORMAT plain, weighted, grouped, log or weighted2022; MODE strict or lenient)
 
 For each FILE, or for standard input (`-`, or none named), one line says that it is accepted, a log with its verdict, or how it is refused: the number, the
-place, and what is expected there. The program `reader_cases` reads the files; it is proved and built first.
+place, and what is expected there. With --list what was read comes before it: the header and each clause, or the literals of a log. The program `reader_cases` reads the files; it is proved and built first.
 
 Exit status: 0 if every file is accepted, 1 if one is refused. It is 2 if the words are wrong, if a file cannot be read or has more than 65,536 bytes, if what is found
 cannot be written, or if `reader_cases` cannot be run; standard error then has a line that says so.
@@ -86,10 +86,15 @@ def verdict(lines):
     raise ValueError(lines[-1])
 
 
+def read(lines):
+    """What was read of a text."""
+    return [line for line in lines if line.startswith(("header ", "clause", "literals"))]
+
+
 def verdicts(format, mode, given):
-    """One line for each text. Nothing is told of any if the program does not answer each as it should."""
+    """What was read of each text, and one line for it. Nothing is told of any if the program does not answer each as it should."""
     try:
-        said = [verdict(lines) for lines in answers(*((format, mode, text) for _, text in given))] if given else []
+        said = [(read(lines), verdict(lines)) for lines in answers(*((format, mode, text) for _, text in given))] if given else []
     except (OSError, subprocess.CalledProcessError):
         raise Stop("check: the program reader_cases cannot be run")
     except (IndexError, KeyError, ValueError):
@@ -114,7 +119,8 @@ def status(arguments):
     if arguments in (["-h"], ["--help"]):
         tell(__doc__.strip())
         return 0
-    format, mode, *files = arguments if len(arguments) >= 2 else [None, None]
+    listed = arguments[:1] == ["--list"]
+    format, mode, *files = arguments[listed:] if len(arguments) >= 2 + listed else [None, None]
     if format not in FORMATS or mode not in MODES:
         raise Stop(__doc__.split("\n")[2])
     files = files or ["-"]
@@ -123,10 +129,10 @@ def status(arguments):
     given = list(texts(files))
     said = verdicts(FORMATS.index(format), MODES.index(mode), given)
     if given:
-        tell("\n".join(f"{name}: {told}" for (name, _), told in zip(given, said)))
+        tell("\n".join("\n".join([*lines * listed, f"{name}: {told}"]) for (name, _), (lines, told) in zip(given, said)))
     if len(given) < len(files):
         return 2
-    return 1 if any(told.startswith("refused") for told in said) else 0
+    return 1 if any(told.startswith("refused") for _, told in said) else 0
 
 
 def main():
