@@ -134,6 +134,23 @@ in_2022(b"7 1 0 h 2 0", refused(5, 6, 1, b"h"))
 in_2022(b"h 2147483648 0", refused(15, 2, 0, b"2147483648"))
 in_2022(b"", "end")
 
+# Where it is stricter than the rules of 2022, and where it takes what they do not name: docs/DIFFERENCES.md.
+in_2022(b"h 0 h 0", refused(5, 4, 0, b"h"))
+in_2022(b"h 0 c", refused(5, 4, 0, b"c"))
+in_2022(b"h 1 c\n0", refused(6, 4, 1, b"c"))
+in_2022(b"h\r0", refused(8, 1, 0, b"\r0"))
+in_2022(b"h\f0", refused(9, 0, 0, b"h\f0"))
+in_2022(b"h +1 0", refused(8, 2, 0, b"+1"))
+in_2022(b"18446744073709551616 0", refused(13, 0, 0, b"18446744073709551616"))
+in_2022(b"p", refused(33, 0, 0, b"p"))
+in_2022(b"h\n0", "clause h:", "end")
+in_2022(b"h 1\n0", "clause h: 1", "end")
+in_2022(b"01 0", "clause 1:", "end")
+in_2022(b"h -0", "clause h:", "end")
+in_2022(b"cx", "end")
+in_2022(b"5 1 0", "clause 5: 1", "end")
+in_2022(b"18446744073709551615 0\n18446744073709551615 0", "clause 18446744073709551615:", "clause 18446744073709551615:", "end")
+
 
 def write(directory, cases):
     os.makedirs(directory, exist_ok=True)
