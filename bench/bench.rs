@@ -80,13 +80,15 @@ const fn text(name: &'static str, format: u32, clauses: u64, width: u64, variabl
 }
 
 /// The texts of the bench. The last three are of 1, 10 and 100 MB.
-const TEXTS: [Text; 9] = [
+const TEXTS: [Text; 11] = [
     text("plain-3", 0, 1_000_000, 3, 240_000),
     text("plain-100", 0, 200_000, 100, 100_000),
     text("weighted-3", 1, 1_000_000, 3, 240_000),
     text("weighted-100", 1, 200_000, 100, 100_000),
     text("grouped-3", 2, 1_000_000, 3, 240_000),
     text("grouped-100", 2, 200_000, 100, 100_000),
+    text("weighted2022-3", 4, 1_000_000, 3, 240_000),
+    text("weighted2022-100", 4, 200_000, 100, 100_000),
     text("grows-1", 0, 47_240, 3, 100_000),
     text("grows-10", 0, 472_400, 3, 100_000),
     text("grows-100", 0, 4_724_000, 3, 100_000),
@@ -100,14 +102,17 @@ impl Text {
         match self.format {
             0 => writeln!(text, "p cnf {variables} {clauses}"),
             1 => writeln!(text, "p wcnf {variables} {clauses} {}", 10 * WEIGHTS),
-            _ => writeln!(text, "p gcnf {variables} {clauses} {GROUPS}"),
+            2 => writeln!(text, "p gcnf {variables} {clauses} {GROUPS}"),
+            _ => writeln!(text, "c {variables} {clauses}"),
         }
         .unwrap();
         for _ in 0..clauses {
             match self.format {
                 0 => Ok(()),
                 1 => write!(text, "{} ", 1 + random.below(WEIGHTS)),
-                _ => write!(text, "{{{}}} ", random.below(GROUPS + 1)),
+                2 => write!(text, "{{{}}} ", random.below(GROUPS + 1)),
+                _ if random.below(2) == 0 => write!(text, "h "),
+                _ => write!(text, "{} ", 1 + random.below(WEIGHTS)),
             }
             .unwrap();
             for _ in 0..self.width {
@@ -144,7 +149,7 @@ fn agreed(format: u32, mode: u32, text: &[u8]) -> u32 {
 
 /// A short text with some of its bytes put in another's place, taken out, or cut off.
 fn damaged(random: &mut Random, text: &Text) -> Vec<u8> {
-    const BYTES: &[u8] = b"0123456789-{} \t\r\ncpx\n0 ";
+    const BYTES: &[u8] = b"0123456789-{} \t\r\ncphx\n0 ";
     let clauses = random.below(5);
     let short = Text {
         name: "",
@@ -182,11 +187,11 @@ fn damaged(random: &mut Random, text: &Text) -> Vec<u8> {
 }
 
 fn check() {
-    let mut refusals = [0u32; 32];
+    let mut refusals = [0u32; 34];
     let mut random = Random(1);
     let damages = 600_000;
     for i in 0..damages {
-        let kind = &TEXTS[2 * (i % 3)];
+        let kind = &TEXTS[2 * (i % 4)];
         refusals[agreed(
             kind.format,
             random.below(2) as u32,
@@ -200,7 +205,7 @@ fn check() {
     for text in TEXTS {
         assert_eq!(agreed(text.format, 0, &text.made()), 0, "{}", text.name);
     }
-    let seen: Vec<String> = (0..32)
+    let seen: Vec<String> = (0..34)
         .filter(|&n| refusals[n] != 0)
         .map(|n| format!("{n}: {}", refusals[n]))
         .collect();

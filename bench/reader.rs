@@ -1,6 +1,6 @@
-//! A reader of the three formats as one would write it in Rust with no library, for bench/run to measure the host calls against.
+//! A reader of the four formats as one would write it in Rust with no library, for bench/run to measure the host calls against.
 //!
-//! It does what `latchtwig_refusal` and `latchtwig_place` do of formats 0 to 2: it reads every clause of a text into a buffer of 1,024 literals, applies the header's
+//! It does what `latchtwig_refusal` and `latchtwig_place` do of formats 0 to 2 and 4: it reads every clause of a text into a buffer of 1,024 literals, applies the header's
 //! counts, and answers a refusal's number and place, or 0 and the text's length.
 
 const ROOM: usize = 1024;
@@ -16,6 +16,7 @@ enum Format {
     Plain,
     Weighted,
     Grouped,
+    Weighted2022,
 }
 
 struct Refusal {
@@ -159,6 +160,20 @@ fn literal(text: &[u8], at: usize, limit: u64) -> Number<i32> {
     Number::Value(value, skip_blanks(text, end))
 }
 
+/// What begins a clause of the 2022 form: `h`, for which 0 stands, or a weight.
+fn hard_or_weight(text: &[u8], at: usize) -> Result<Number<u64>, Refusal> {
+    if word(text, at, b"p").is_some() {
+        return refused(33, at);
+    }
+    if let Some(next) = word(text, at, b"h") {
+        return Ok(Number::Value(0, next));
+    }
+    match unsigned(text, at, u64::MAX) {
+        Number::Value(0, _) => refused(32, at),
+        weight => Ok(weight),
+    }
+}
+
 /// The literals up to the 0: how many there are and the place past the 0, or none if no number stands at the place.
 fn literals(
     text: &[u8],
@@ -226,13 +241,14 @@ impl<'a> Reader<'a> {
             clauses: 0,
             read: 0,
         };
-        let Some(at) = word(text, at, b"p") else {
-            return Ok(reader);
-        };
         let name: &[u8] = match format {
             Format::Plain => b"cnf",
             Format::Weighted => b"wcnf",
             Format::Grouped => b"gcnf",
+            Format::Weighted2022 => return Ok(reader),
+        };
+        let Some(at) = word(text, at, b"p") else {
+            return Ok(reader);
         };
         let Some(at) = word(text, at, name) else {
             return refused(1, at);
@@ -280,11 +296,12 @@ impl<'a> Reader<'a> {
             Format::Plain => Number::Value(0, at),
             Format::Weighted => unsigned(text, at, u64::MAX),
             Format::Grouped => group(text, at, self.group_limit),
+            Format::Weighted2022 => hard_or_weight(text, at)?,
         };
         let (extra, from) = match number {
             Number::Missing => return self.no_clause(at),
-            Number::TooBig if self.format == Format::Weighted => return refused(13, at),
-            Number::TooBig => return refused(14, at),
+            Number::TooBig if self.format == Format::Grouped => return refused(14, at),
+            Number::TooBig => return refused(13, at),
             Number::Value(extra, next) => (extra, next),
         };
         let from = if self.format == Format::Plain {
@@ -324,6 +341,7 @@ pub fn read(format: u32, mode: u32, text: &[u8]) -> Outcome {
         0 => Format::Plain,
         1 => Format::Weighted,
         2 => Format::Grouped,
+        4 => Format::Weighted2022,
         _ => {
             return Outcome {
                 number: 26,

@@ -12,6 +12,8 @@ NAMES = {
     "weighted-100": "weighted, 200,000 clauses of 100",
     "grouped-3": "grouped, 1,000,000 clauses of 3",
     "grouped-100": "grouped, 200,000 clauses of 100",
+    "weighted2022-3": "2022 form, 1,000,000 clauses of 3",
+    "weighted2022-100": "2022 form, 200,000 clauses of 100",
     "grows-1": "plain, clauses of 3, 1 MB",
     "grows-10": "plain, clauses of 3, 10 MB",
     "grows-100": "plain, clauses of 3, 100 MB",
