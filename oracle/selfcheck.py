@@ -163,7 +163,7 @@ case(b"x" * 61, NONE, refused(9, 0, 0, b"x" * 60))
 case(b"\xff\x00\t", NONE, refused(9, 0, 0, b"\xff\x00"))
 
 # Unknown formats and modes.
-case(b"1 0", refused(26, 0), format=4)
+case(b"1 0", refused(26, 0), format=5)
 case(b"1 0", refused(26, 0), mode=2)
 case(b"", refused(26, 0), format=255, mode=255)
 
