@@ -4,7 +4,7 @@ use mathlib.Core.Bool.{Bool, true, false, cond}
 use mathlib.Core.List.{List, []}
 use mathlib.Core.Path.{_≡_, refl, ap}
 use native.Mathlib.Omega.{arith}
-use borrow.Author.Tests.{lt-leb, leb-true, eqb-true}
+use borrow.Author.Tests.{lt-leb, leb-true}
 use lib.Dec.{leb, eqb}
 use lib.ListN.{length}
 use lib.IntN.{ℤ}
@@ -29,7 +29,7 @@ use Rattle.dimacs.specs.declared.Uint.{Uint}
 use Rattle.dimacs.specs.declared.Uint.the-variants as uint
 use Rattle.dimacs.proofs.Tests.{tested}
 use Rattle.dimacs.proofs.Spans.{past-spans, lines-spans, linebreaks-spans, UintMoves, uint-moves, braced-uint-moves}
-use Rattle.dimacs.proofs.WordEnds.{word-moved, NoStops, NoLFBefore}
+use Rattle.dimacs.proofs.WordEnds.{word-moved, NoLFBefore}
 use Rattle.dimacs.proofs.Alike.{Alike, blanks-same, lines-same, linebreaks-same}
 use Rattle.dimacs.proofs.AlikeWords.{word-stands-same, word-same, EndSeen, end-same, UintSeen, zero-same, uint-follows, braced-uint-follows}
 use Rattle.dimacs.proofs.AlikeRows.{LiteralsFollow, literals-same}

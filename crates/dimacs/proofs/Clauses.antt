@@ -1,15 +1,14 @@
 -- A clause takes at least two bytes, or one where the text ends. Assumes nothing.
-use Prim.Native.Nat.{ℕ, zero, suc, _+_, _-_, _*_, _/_, _≤_, _<_, min, max}
-use mathlib.Core.Bool.{true, cond}
-use mathlib.Core.List.{List, [], _∷_, _++_}
-use mathlib.Core.Path.{_≡_, refl, ap, sym, _∙_, subst}
+use Prim.Native.Nat.{ℕ, suc, _+_, _-_, _/_, _≤_, _<_, max}
+use mathlib.Core.List.{List, []}
+use mathlib.Core.Path.{_≡_}
 use native.Mathlib.Omega.{arith}
-use borrow.Author.Tests.{leb-true, leb-false}
-use lib.Dec.{leb, eqb}
-use lib.ListN.{length, length-append}
+use borrow.Author.Tests.{leb-true}
+use lib.Dec.{eqb}
+use lib.ListN.{length}
 use lib.IntN.{ℤ}
 use Rattle.dimacs.specs.Loop.{Step, again, answer}
-use Rattle.dimacs.specs.Names.{Reason, numberOf, numbered, refusal, largest, hard}
+use Rattle.dimacs.specs.Names.{Reason, numberOf, numbered, refusal, largest}
 use Rattle.dimacs.specs.Bytes.{bytes}
 use Rattle.dimacs.specs.Tokens.{unmoved, atEnd, word, linebreaks, uintAt, bracedUintAt, endOfLine, lineEnds}
 use Rattle.dimacs.specs.Rows.{Row, ends, closes, stops, readBy, Reading, reads, row}
@@ -30,7 +29,7 @@ use Rattle.dimacs.specs.declared.EndOfLine.{EndOfLine}
 use Rattle.dimacs.specs.declared.EndOfLine.the-variants as end
 use Rattle.dimacs.proofs.Loops.{Leads, Falls, after, unrolled, kept}
 use Rattle.dimacs.proofs.Tests.{chosen}
-use Rattle.dimacs.proofs.Spans.{Spans, then-spans, Moves, moves, then-moves, moves-then, Closes, EndCloses, end-closes, word-spans, linebreaks-spans, UintMoves, uint-moves, braced-uint-moves}
+use Rattle.dimacs.proofs.Spans.{Spans, then-spans, Moves, moves, moves-then, EndCloses, end-closes, word-spans, linebreaks-spans, UintMoves, uint-moves, braced-uint-moves}
 use Rattle.dimacs.proofs.Rows.{RowSpans, row-spans, Grown, row-grows, left}
 
 -- The literals close past a byte of their own, or are refused at a place within reach.

@@ -1,6 +1,6 @@
 -- The 2022 form has no header and no counts, so that both modes read it alike, and its hard clauses are those that begin with `h`. Assumes nothing.
 use Prim.Native.Nat.{ℕ}
-use mathlib.Core.Bool.{Bool, true, false, not}
+use mathlib.Core.Bool.{Bool, false, not}
 use mathlib.Core.List.{List}
 use mathlib.Core.Path.{_≡_, refl}
 use lib.Dec.{eqb}
@@ -8,7 +8,7 @@ use Rattle.dimacs.specs.Bytes.{bytes}
 use Rattle.dimacs.specs.Names.{Reason, numberOf, largest, hard}
 use Rattle.dimacs.specs.Tokens.{unmoved, blanks, lines, word, uintAt}
 use Rattle.dimacs.specs.Header.{openingOf}
-use Rattle.dimacs.specs.Clauses.{isZero, startBy, softBy, startIn2022}
+use Rattle.dimacs.specs.Clauses.{isZero, startBy, startIn2022}
 use Rattle.dimacs.specs.Texts.{text}
 use Rattle.dimacs.specs.declared.Format.the-variants.{Weighted2022}
 use Rattle.dimacs.specs.declared.Mode.{Mode}
@@ -18,7 +18,7 @@ use Rattle.dimacs.specs.declared.Start.{Start}
 use Rattle.dimacs.specs.declared.Start.the-variants as start
 use Rattle.dimacs.specs.declared.Uint.{Uint}
 use Rattle.dimacs.specs.declared.Uint.the-variants as uint
-use Rattle.dimacs.proofs.Tests.{tested, chosen, unlike}
+use Rattle.dimacs.proofs.Tests.{tested, chosen}
 
 pub no-header-in-2022 : (s : List ℕ) → openingOf s Weighted2022 ≡ opening.NoHeader (lines s (blanks s 0))
 unfolding openingOf

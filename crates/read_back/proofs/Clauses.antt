@@ -10,7 +10,7 @@ use lib.Dec.{eqb}
 use lib.ListN.{length, getD, length-append}
 use lib.IntN.{ℤ, pos, negsuc}
 use Rattle.dimacs.specs.Names.{ceiling, largest, hard}
-use Rattle.dimacs.specs.Tokens.{uintAt, intAt, word, linebreaks}
+use Rattle.dimacs.specs.Tokens.{uintAt, intAt, linebreaks}
 use Rattle.dimacs.specs.Rows.{closes, reads, row}
 use Rattle.dimacs.specs.Clauses as clauses
 use Rattle.dimacs.specs.Clauses.{closed, literals, clause, says, literalsAfter, softBy, startIn2022, startAt, finish, clauseAt}

@@ -1,28 +1,28 @@
--- How long the parts of a line are, and whole lines put. Assumes nothing.
+-- Whole lines put, or refused. Assumes nothing.
 use Prim.Native.Nat.{ℕ, _+_, _≤_, _<_}
 use mathlib.Core.Bool.{Bool, true, false, not, cond, _&&_}
-use mathlib.Core.List.{List, [], _∷_, _++_, append-assoc}
+use mathlib.Core.List.{List, _++_, append-assoc}
 use mathlib.Core.Path.{_≡_, refl, ap, sym, _∙_}
 use native.Mathlib.Omega.{arith}
-use borrow.Author.Tests.{eq-eqb, ne-eqb, le-leb, lt-leb, leb-true}
+use borrow.Author.Tests.{le-leb, lt-leb, leb-true}
 use lib.Dec.{leb, eqb}
 use lib.IntN.{ℤ}
-use lib.ListN.{length, drop, length-append}
+use lib.ListN.{length, drop}
 use lib.Seq.{sets-eq}
 use Rattle.dimacs.specs.Bytes.{bytes}
 use Rattle.dimacs.specs.Names.{Reason, numberOf, callRefusal, ceiling, hard}
 use Rattle.dimacs.specs.Tokens.{run}
-use Rattle.dimacs.specs.Header.{hasHeader, hasThird}
+use Rattle.dimacs.specs.Header.{hasHeader}
 use Rattle.dimacs.specs.Clauses.{hasHard}
 use Rattle.dimacs.specs.Writing as def
-use Rattle.dimacs.specs.Writing.{isLiteral, digits, items, lead, thirdDigits, headerLine, clauseLine}
+use Rattle.dimacs.specs.Writing.{isLiteral, items, lead, thirdDigits, headerLine, clauseLine}
 use Rattle.dimacs.specs.declared.Format.{Format}
-use Rattle.dimacs.specs.declared.Format.the-variants.{Plain, Weighted, Grouped, Weighted2022}
 use Rattle.dimacs.specs.declared.Header.{Header}
 use Rattle.dimacs.specs.declared.Refusal.{Refusal}
 use Rattle.dimacs.proofs.Tests.{tested, chosen}
 use Rattle.decimals.specs.Pieces.{PutAt}
-use Rattle.writer.specs.Lines.{headerStart, headerCount}
+use Rattle.measures.specs.Lines.{headerStart, headerCount}
+use Rattle.measures.proofs.Lines.{header-to-come}
 use Rattle.writer.specs.Answers.{Writes, writtenOf, bytesWritten, numberIn, placeIn, lineLength}
 use Rattle.writer.specs.declared.Written.{Written}
 use Rattle.writer.specs.declared.Written.the-variants.{Line, Refused}
@@ -35,55 +35,17 @@ pub not-false : (b : Bool) → not b ≡ false → b ≡ true
 not-false true h = refl
 not-false false h = sym h
 
-pub weight-long : (w : ℕ) → length (lead Weighted w) ≡ length (digits w) + 1
-weight-long w = length-append (digits w) (bytes " ")
-
-pub group-long : (g : ℕ) → length (lead Grouped g) ≡ length (digits g) + 3
-group-long g = omega (arith, length-append (digits g) (bytes "} "))
-
--- In the 2022 form a hard clause begins with `h`, a soft one as a weighted clause does.
-pub hard-lead : {w : ℕ} → w ≡ hard → lead Weighted2022 w ≡ bytes "h "
-hard-lead {w} e = rw (eq-eqb w 0 e)
-
-pub soft-lead : {w : ℕ} → (w ≡ hard → ⊥) → lead Weighted2022 w ≡ lead Weighted w
-soft-lead {w} n = rw (ne-eqb w 0 n)
-
--- A clause's line in its pieces, as they are to come and as they are put.
-module _ (f : Format) (extra : ℕ) (so : List ℤ) where
-  pub clause-to-come : clauseLine f extra so ≡ lead f extra ++ (items so ++ bytes "0\n")
-  unfolding clauseLine
-  clause-to-come = append-assoc (lead f extra) (items so) (bytes "0\n")
-
-  pub clause-put : clauseLine f extra so ≡ lead f extra ++ items so ++ bytes "0\n"
-  unfolding clauseLine
-  clause-put = refl
-
-  pub clause-long : length (clauseLine f extra so) ≡ length (lead f extra) + 2 + length (items so)
-  clause-long = ap length clause-to-come ∙ simp length-append (omega arith)
+-- A clause's line in its pieces, as they are put.
+pub clause-put : (f : Format) (extra : ℕ) (so : List ℤ) → clauseLine f extra so ≡ lead f extra ++ items so ++ bytes "0\n"
+unfolding clauseLine
+clause-put f extra so = refl
 
 regrouped : (a b c d e : List ℕ) → a ++ (b ++ (c ++ (d ++ e))) ≡ a ++ b ++ c ++ d ++ e
 regrouped a b c d e = simp append-assoc
 
--- A header's, the same two ways.
-module _ (f : Format) (h : Header) where
-  pub header-to-come : headerLine f h ≡ headerStart f ++ (headerCount (h .variables) ++ (headerCount (h .clauses) ++ (thirdDigits f (h .third) ++ bytes "\n")))
-  unfolding headerLine
-  header-to-come = simp append-assoc
-
-  pub header-put : headerLine f h ≡ headerStart f ++ headerCount (h .variables) ++ headerCount (h .clauses) ++ thirdDigits f (h .third) ++ bytes "\n"
-  header-put = header-to-come ∙ regrouped (headerStart f) (headerCount (h .variables)) (headerCount (h .clauses)) (thirdDigits f (h .third)) (bytes "\n")
-
-  pub header-long : length (headerLine f h) ≡ length (headerStart f) + length (digits (h .variables)) + length (digits (h .clauses)) + length (thirdDigits f (h .third)) + 3
-  header-long = ap length header-to-come ∙ simp length-append (omega arith)
-
-pub start-bounded : (f : Format) → length (headerStart f) ≤ 6
-start-bounded Plain = omega arith
-start-bounded Weighted = omega arith
-start-bounded Grouped = omega arith
-start-bounded Weighted2022 = omega arith
-
-pub third-bounded : (f : Format) (t : ℕ) → length (thirdDigits f t) ≤ length (digits t) + 1
-third-bounded f t = chosen (λ l. length l ≤ length (digits t) + 1) (hasThird f) (λ _. omega arith) (λ _. omega arith)
+-- A header's.
+pub header-put : (f : Format) (h : Header) → headerLine f h ≡ headerStart f ++ headerCount (h .variables) ++ headerCount (h .clauses) ++ thirdDigits f (h .third) ++ bytes "\n"
+header-put f h = header-to-come f h ∙ regrouped (headerStart f) (headerCount (h .variables)) (headerCount (h .clauses)) (thirdDigits f (h .third)) (bytes "\n")
 
 -- A refusal leaves the output as it was.
 pub unwritten-at : {d : def.Written} {old : List ℕ} {why : Refusal} {r : Written} → d ≡ def.unwritten why → r ≡ Refused why → Writes d old old r

@@ -1,3 +1,2 @@
--- The parts of a header, and the answers of the writers, by those of the definition.
-pub mod Lines
+-- The answers of the writers, by those of the definition.
 pub mod Answers

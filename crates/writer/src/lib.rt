@@ -2,21 +2,18 @@
 //
 // A line is written whole or not at all: a writer answers the length of its line, or a refusal with the output untouched.
 ghost use mathlib.Core.Path.{_≡_};
-ghost use Prim.Native.Nat.{_+_, _-_, _≤_};
+ghost use Prim.Native.Nat.{_+_, _≤_};
 ghost use lib.Dec.{eqb};
 ghost use lib.ListN.{length};
 ghost use mathlib.Core.Bool.{_&&_};
 ghost use Rattle.dimacs.specs.Clauses.{hasHard};
 ghost use Rattle.dimacs.specs.Names.{callNumbered};
-ghost use Rattle.dimacs.specs.Tokens.{run};
-ghost use Rattle.dimacs.specs.Writing.{items, lead, thirdDigits, isLiteral, headerLine, clauseLine, writeHeader, writeLine, writeClause, writeHardClause};
+ghost use Rattle.dimacs.specs.Writing.{items, lead, thirdDigits, headerLine, clauseLine, writeHeader, writeLine, writeClause, writeHardClause};
 ghost use Rattle.dimacs.specs.declared.Format.{Format};
 ghost use Rattle.decimals.specs.Pieces.{PutAt, ifRoom};
-ghost use Rattle.writer.specs.Lines.{headerStart};
+ghost use Rattle.measures.specs.Lines.{headerStart};
 ghost use Rattle.writer.specs.Answers.{Writes};
 ghost use Rattle.writer.specs.declared.Written.the-variants.{Refused};
-use decimals::digit_count;
-use decimals::literal_length;
 use decimals::put_digits;
 use decimals::put_digits_after;
 use decimals::put_literal;
@@ -33,8 +30,11 @@ use dimacs::WEIGHT_ZERO;
 use dimacs::has_hard;
 use dimacs::has_header;
 use dimacs::has_third;
-use dimacs::magnitude;
 use dimacs::refuse_call;
+use measures::around_length;
+use measures::header_length;
+use measures::left_after;
+use measures::writable;
 
 // What a writer answers.
 pub enum Written {
@@ -58,62 +58,6 @@ fn put_literals(out: &mut [u8], at: usize, lits: &[i32]) -> usize
         i += 1;
     }
     place
-}
-
-// How many bytes are left of so many after literals with the spaces after them, 0 if these are more. Each is taken from what is left, so that no sum can overflow.
-fn left_after(room: usize, lits: &[i32]) -> usize
-    ensures { λ r. ⌜ r ≡ room - length (items (now (lits .entry))) ⌝ }
-{
-    let mut left = room;
-    let mut i: usize = 0;
-    while i < lits.len() {
-        let long = literal_length(lits[i]);
-        if left <= long {
-            return 0;
-        }
-        left -= long + 1;
-        i += 1;
-    }
-    left
-}
-
-fn is_literal(literal: i32) -> bool
-    ensures { λ r. ⌜ r ≡ isLiteral literal ⌝ }
-{
-    let size = magnitude(literal);
-    1 <= size && size <= (CEILING as u64)
-}
-
-// How many literals come before the first that cannot be written.
-fn writable(lits: &[i32]) -> usize
-    ensures { λ r. ⌜ r ≡ run isLiteral (now (lits .entry)) ⌝ }
-{
-    let mut i: usize = 0;
-    while i < lits.len() {
-        if is_literal(lits[i]) {
-            i += 1;
-        } else {
-            return i;
-        }
-    }
-    i
-}
-
-// How long what stands around the literals is: the 0 and the line end, and a weight, a group with its braces or the word `h`, with its space.
-fn around_length(format: Format, extra: u64) -> usize
-    ensures { λ r. ⌜ r ≡ length (lead format extra) + 2 ⌝ }
-{
-    match format {
-        Format::Plain => 2,
-        Format::Weighted => digit_count(extra) + 3,
-        Format::Grouped => digit_count(extra) + 5,
-        Format::Weighted2022 => {
-            if extra == HARD {
-                return 4;
-            }
-            digit_count(extra) + 3
-        }
-    }
 }
 
 // Bytes at the output's front.
@@ -245,36 +189,6 @@ fn put_third(out: &mut [u8], at: usize, format: Format, third: u64) -> usize
         return put_digits_after(out, at, b' ', third);
     }
     at
-}
-
-// How long what a header begins with is.
-fn start_length(format: Format) -> usize
-    ensures { λ r. ⌜ r ≡ length (headerStart format) ⌝ }
-{
-    match format {
-        Format::Plain => 5,
-        Format::Weighted => 6,
-        Format::Grouped => 6,
-        Format::Weighted2022 => 2,
-    }
-}
-
-// How long the third count is with its space, if the format has one.
-fn third_length(format: Format, third: u64) -> usize
-    ensures { λ r. ⌜ r ≡ length (thirdDigits format third) ⌝ }
-{
-    if has_third(format) {
-        return digit_count(third) + 1;
-    }
-    0
-}
-
-// Beside its start and its counts a header has two spaces and the line end.
-fn header_length(format: Format, header: Header) -> usize
-    ensures { λ r. ⌜ r ≡ length (headerLine format header) ⌝ }
-{
-    let counts = digit_count(header.variables) + digit_count(header.clauses);
-    counts + start_length(format) + third_length(format, header.third) + 3
 }
 
 fn put_header(out: &mut [u8], format: Format, header: Header) -> usize

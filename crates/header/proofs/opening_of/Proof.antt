@@ -1,5 +1,5 @@
 -- `header::opening_of` meets its contract: the word `p` stands in a format that has a header, or it does not. Assumes nothing.
-use mathlib.Core.Path.{_≡_, sym, ap, _∙_}
+use mathlib.Core.Path.{sym, ap, _∙_}
 use borrow.Author.Tests.{eq-eqb, ne-eqb}
 use Rattle.dimacs.specs.Tokens.{lines}
 use Rattle.dimacs.specs.Header.{openingOf}

@@ -8,7 +8,8 @@ use Rattle.dimacs.specs.Bytes.{bytes}
 use Rattle.dimacs.specs.Writing.{lead, items}
 use Rattle.decimals.proofs.Pieces.{put-then}
 use Rattle.writer.proofs.Pieces.{PutBefore, put-two, put-before, next-room, then-before}
-use Rattle.writer.proofs.Lines.{clause-put, clause-to-come}
+use Rattle.measures.proofs.Lines.{clause-to-come}
+use Rattle.writer.proofs.Lines.{clause-put}
 use Rattle.writer.proofs.put_clause.Statement.{statement}
 use Rattle.writer.proofs.put_clause.Tie as tie
 

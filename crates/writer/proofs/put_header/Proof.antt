@@ -7,10 +7,11 @@ use borrow.Author.Needs.{needs}
 use lib.ListN.{length, length-append, length-set}
 use Rattle.dimacs.specs.Bytes.{bytes}
 use Rattle.dimacs.specs.Writing.{thirdDigits}
-use Rattle.writer.specs.Lines.{headerStart, headerCount}
+use Rattle.measures.specs.Lines.{headerStart, headerCount}
 use Rattle.decimals.proofs.Pieces.{put-then}
 use Rattle.writer.proofs.Pieces.{PutBefore, put-one, put-before, then-whole}
-use Rattle.writer.proofs.Lines.{header-put, header-to-come}
+use Rattle.measures.proofs.Lines.{header-to-come}
+use Rattle.writer.proofs.Lines.{header-put}
 use Rattle.writer.proofs.put_header.Statement.{statement}
 use Rattle.writer.proofs.put_header.Tie as tie
 

@@ -1,15 +1,12 @@
 -- `writer::put_lead` meets its contract: by format. Assumes nothing.
-use Prim.Native.Nat.{ℕ}
-use mathlib.Core.List.{List, _++_}
-use mathlib.Core.Path.{_≡_, ap, _∙_, sym}
+use mathlib.Core.List.{_++_}
+use mathlib.Core.Path.{ap}
 use native.Mathlib.Omega.{arith}
-use borrow.Author.Tests.{eq-eqb, ne-eqb}
 use lib.ListN.{length, length-set}
 use Rattle.dimacs.specs.Bytes.{bytes}
 use Rattle.dimacs.specs.Writing.{digits, lead}
-use Rattle.dimacs.specs.declared.Format.the-variants.{Weighted, Weighted2022}
 use Rattle.decimals.proofs.Pieces.{put-nothing, put-then}
-use Rattle.writer.proofs.Lines.{hard-lead, soft-lead}
+use Rattle.measures.proofs.Lines.{hard-lead, soft-lead}
 use Rattle.writer.proofs.Pieces.{PutBefore, put-two, whole-before}
 use borrow.Author.Needs.{needs}
 use Rattle.writer.proofs.put_lead.Statement.{statement}

@@ -4,7 +4,7 @@ use lib.ListN.{length-set}
 use Rattle.dimacs.specs.Bytes.{bytes}
 use Rattle.dimacs.specs.Writing.{digits}
 use Rattle.decimals.proofs.Pieces.{put-then}
-use Rattle.writer.proofs.Lines.{weight-long}
+use Rattle.measures.proofs.Lines.{weight-long}
 use Rattle.writer.proofs.Pieces.{PutBefore, put-one, whole-before}
 use borrow.Author.Needs.{needs}
 use Rattle.writer.proofs.put_weight.Statement.{statement}

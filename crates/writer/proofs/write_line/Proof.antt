@@ -6,7 +6,8 @@ use native.Mathlib.Omega.{arith}
 use borrow.Author.Needs.{needs}
 use lib.ListN.{length}
 use Rattle.dimacs.specs.Writing.{lead, items, clauseLine, writeLine, fits}
-use Rattle.writer.proofs.Lines.{clause-long, clause-bad, clause-good, unwritten-at, written-at, too-long}
+use Rattle.measures.proofs.Lines.{clause-long}
+use Rattle.writer.proofs.Lines.{clause-bad, clause-good, unwritten-at, written-at, too-long}
 use Rattle.writer.proofs.write_line.Statement.{statement}
 use Rattle.writer.proofs.write_line.Tie as tie
 

@@ -1,4 +1,4 @@
--- `writer::left_after` meets its contract: what the first literals take and what is left make up the room. Assumes nothing.
+-- `measures::left_after` meets its contract: what the first literals take and what is left make up the room. Assumes nothing.
 use mathlib.Core.Path.{_≡_, ap, _∙_}
 use lib.IntN.{pos}
 use mir.Syntax.{w32}
@@ -7,9 +7,9 @@ use Rattle.dimacs.specs.Writing.{signedDigits}
 use Prim.Native.Nat.{_-_}
 use borrow.Author.Needs.{needs}
 use lib.ListN.{length, getD}
-use Rattle.writer.proofs.Literals.{Fitted, fitted-none, fitted-more, fitted-over, fitted-all}
-use Rattle.writer.proofs.left_after.Statement.{statement}
-use Rattle.writer.proofs.left_after.Tie as tie
+use Rattle.measures.proofs.Literals.{Fitted, fitted-none, fitted-more, fitted-over, fitted-all}
+use Rattle.measures.proofs.left_after.Statement.{statement}
+use Rattle.measures.proofs.left_after.Tie as tie
 
 abbrev Inv-loop : tie.InvT-loop
 Inv-loop room lits left₀ i₀ left i = Fitted room lits left i

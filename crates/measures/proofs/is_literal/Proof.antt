@@ -1,12 +1,12 @@
--- `writer::is_literal` meets its contract: the two tests of its size. Assumes nothing.
+-- `measures::is_literal` meets its contract: the two tests of its size. Assumes nothing.
 use mathlib.Core.Path.{ap, _∙_}
 use lib.IntN.{natAbs}
 use mir.Syntax.{w32}
 use mir.ValLaws.{toZ-ofZ}
 use borrow.Author.Needs.{needs}
-use Rattle.writer.proofs.Literals.{literal-by-ceiling, zero-no-literal}
-use Rattle.writer.proofs.is_literal.Statement.{statement}
-use Rattle.writer.proofs.is_literal.Tie as tie
+use Rattle.measures.proofs.Literals.{literal-by-ceiling, zero-no-literal}
+use Rattle.measures.proofs.is_literal.Statement.{statement}
+use Rattle.measures.proofs.is_literal.Tie as tie
 
 magnitude-requires : tie.Need-magnitude-requires
 magnitude-requires c κs = search needs

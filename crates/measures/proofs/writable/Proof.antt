@@ -1,4 +1,4 @@
--- `writer::writable` meets its contract: a run of literals, as `past` is one of bytes. Assumes nothing.
+-- `measures::writable` meets its contract: a run of literals, as `past` is one of bytes. Assumes nothing.
 use Prim.Native.Nat.{_-_, _+_}
 use borrow.Author.Needs.{needs}
 use mathlib.Core.List.{List}
@@ -11,8 +11,8 @@ use lib.ListN.{length, getD, drop}
 use Rattle.dimacs.specs.Tokens.{run}
 use Rattle.dimacs.specs.Writing.{isLiteral}
 use Rattle.dimacs.proofs.Past.{run-more, run-stop, run-end}
-use Rattle.writer.proofs.writable.Statement.{statement}
-use Rattle.writer.proofs.writable.Tie as tie
+use Rattle.measures.proofs.writable.Statement.{statement}
+use Rattle.measures.proofs.writable.Tie as tie
 
 abbrev Inv-loop : tie.InvT-loop
 Inv-loop lits i₀ i = run isLiteral lits ≡ i + run isLiteral (drop i lits)

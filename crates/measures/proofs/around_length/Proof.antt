@@ -1,10 +1,10 @@
--- `writer::around_length` meets its contract: by format. Assumes nothing.
+-- `measures::around_length` meets its contract: by format. Assumes nothing.
 use native.Mathlib.Omega.{arith}
 use Rattle.decimals.proofs.Digits.{digits-bounded}
-use Rattle.writer.proofs.Lines.{weight-long, group-long, hard-lead, soft-lead}
+use Rattle.measures.proofs.Lines.{weight-long, group-long, hard-lead, soft-lead}
 use borrow.Author.Needs.{needs}
-use Rattle.writer.proofs.around_length.Statement.{statement}
-use Rattle.writer.proofs.around_length.Tie as tie
+use Rattle.measures.proofs.around_length.Statement.{statement}
+use Rattle.measures.proofs.around_length.Tie as tie
 
 enum-told : tie.Need-enum-told
 enum-told c = search needs

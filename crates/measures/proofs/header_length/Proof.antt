@@ -1,11 +1,11 @@
--- `writer::header_length` meets its contract: the lengths of its parts, none of which can overflow the sum. Assumes nothing.
+-- `measures::header_length` meets its contract: the lengths of its parts, none of which can overflow the sum. Assumes nothing.
 use Prim.Native.Nat.{ℕ, _+_, _/_, _^_, _≤_}
 use native.Mathlib.Omega.{arith}
 use Rattle.decimals.proofs.Digits.{digits-bounded}
-use Rattle.writer.proofs.Lines.{header-long, start-bounded, third-bounded}
+use Rattle.measures.proofs.Lines.{header-long, start-bounded, third-bounded}
 use borrow.Author.Needs.{needs}
-use Rattle.writer.proofs.header_length.Statement.{statement}
-use Rattle.writer.proofs.header_length.Tie as tie
+use Rattle.measures.proofs.header_length.Statement.{statement}
+use Rattle.measures.proofs.header_length.Tie as tie
 
 digit-count-requires : tie.Need-digit-count-requires
 digit-count-requires c κs = search needs

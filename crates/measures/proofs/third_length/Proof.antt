@@ -1,10 +1,10 @@
--- `writer::third_length` meets its contract: the format has a third count, or it does not. Assumes nothing.
+-- `measures::third_length` meets its contract: the format has a third count, or it does not. Assumes nothing.
 use mathlib.Core.Path.{sym, _∙_}
 use native.Mathlib.Omega.{arith}
 use Rattle.decimals.proofs.Digits.{digits-bounded}
 use borrow.Author.Needs.{needs}
-use Rattle.writer.proofs.third_length.Statement.{statement}
-use Rattle.writer.proofs.third_length.Tie as tie
+use Rattle.measures.proofs.third_length.Statement.{statement}
+use Rattle.measures.proofs.third_length.Tie as tie
 
 has-third-requires : tie.Need-has-third-requires
 has-third-requires c κs = search needs

@@ -1,7 +1,7 @@
--- `writer::start_length` meets its contract, by the format. Assumes nothing.
+-- `measures::start_length` meets its contract, by the format. Assumes nothing.
 use borrow.Author.Needs.{needs}
-use Rattle.writer.proofs.start_length.Statement.{statement}
-use Rattle.writer.proofs.start_length.Tie as tie
+use Rattle.measures.proofs.start_length.Statement.{statement}
+use Rattle.measures.proofs.start_length.Tie as tie
 
 enum-told : tie.Need-enum-told
 enum-told c = search needs

@@ -1,0 +1,2 @@
+-- The parts of a header.
+pub mod Lines
