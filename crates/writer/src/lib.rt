@@ -138,7 +138,7 @@ fn write_line(format: Format, extra: u64, lits: &[i32], out: &mut [u8]) -> Writt
     unwritten(OUTPUT_TOO_SHORT, 0)
 }
 
-// Whether a soft clause has no weight.
+// Whether a clause of the 2022 form has the weight 0, which no soft one may have.
 fn lacks_weight(format: Format, extra: u64) -> bool
     ensures { λ r. ⌜ r ≡ hasHard format && eqb extra 0 ⌝ }
 {
