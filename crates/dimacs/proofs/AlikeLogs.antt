@@ -1,7 +1,7 @@
 -- Two texts with the same first bytes are as logs refused alike among them. Assumes nothing.
 use Prim.Native.Nat.{ℕ, zero, suc, _+_, _-_, _≤_, _<_}
 use mathlib.Core.Bool.{false, _||_}
-use mathlib.Core.List.{List, []}
+use mathlib.Core.List.{List}
 use mathlib.Core.Path.{_≡_, refl, ap, sym, _∙_, subst}
 use native.Mathlib.Omega.{arith}
 use borrow.Author.Tests.{lt-leb, eqb-true, eqb-false, leb-true}
@@ -13,23 +13,20 @@ use Rattle.dimacs.specs.Bytes.{bytes, isNotStop}
 use Rattle.dimacs.specs.Names.{numbered, ceiling}
 use Rattle.dimacs.specs.Tokens.{begins, unmoved, blanks, lineEnd, nextLine, fixed, strictComment, endOfLine}
 use Rattle.dimacs.specs.Rows.{Row, ends, closes, stops, reads, row}
-use Rattle.dimacs.specs.Logs.{LogAnswer, accepted, refusedLog, Log, logAt, isClosed, isSaid, lineRead, valuesRead, valueLine, solutionIs, solutionLine, logEnd, otherLine, logLine, logFrom, log}
+use Rattle.dimacs.specs.Logs.{LogAnswer, accepted, refusedLog, Log, isClosed, isSaid, lineRead, valuesRead, valueLine, solutionIs, solutionLine, logEnd, otherLine, logLine, logFrom, log}
 use Rattle.dimacs.specs.Seen.{wordSeen, logSeen}
 use Rattle.dimacs.specs.declared.Assignment.{Assignment}
 use Rattle.dimacs.specs.declared.Assignment.the-variants.{Unbegun, Begun, Closed}
 use Rattle.dimacs.specs.declared.Mode.{Mode}
 use Rattle.dimacs.specs.declared.Mode.the-variants.{Strict, Lenient}
-use Rattle.dimacs.specs.declared.Solution.{Solution}
-use Rattle.dimacs.specs.declared.Solution.the-variants.{Unsaid, Said}
 use Rattle.dimacs.specs.declared.Verdict.{Verdict}
-use Rattle.dimacs.specs.declared.Verdict.the-variants.{Yes, No, Unknown}
 use Rattle.dimacs.proofs.Loops.{Leads, after}
 use Rattle.dimacs.proofs.Tests.{tested}
 use Rattle.dimacs.proofs.Spans.{past-spans, line-end-spans}
 use Rattle.dimacs.proofs.Words.{fixed-no, fixed-is}
 use Rattle.dimacs.proofs.Rows.{RowSpans, row-spans}
 use Rattle.dimacs.proofs.Logs.{LineLeads, log-line-leads, log-step}
-use Rattle.dimacs.proofs.WordEnds.{NoStops, begins-word, no-word-at-line-end}
+use Rattle.dimacs.proofs.WordEnds.{NoStops, begins-run, no-word-at-line-end}
 use Rattle.dimacs.proofs.Alike.{Alike, blanks-same, line-end-same, next-line-same}
 use Rattle.dimacs.proofs.AlikeWords.{all-fixed-same, fixed-same}
 use Rattle.dimacs.proofs.AlikeRows.{row-reach, RowFollows, row-same}
@@ -39,10 +36,10 @@ abbrev pub StepSeen : ℕ → List ℕ → Step Log LogAnswer → Type 0
 StepSeen n s = Leads (λ l. l .at + 2 ≤ n) (λ x. logSeen s x ≤ n)
 
 module _ {n : ℕ} {s t : List ℕ} (a : Alike n s t) where
-  line-read-same : (at : ℕ) (solution : Solution) (g : Assignment) (so : List ℤ) → StepSeen n s (lineRead s at solution g so)
-      → (wordSeen s at ≤ n) × (lineRead t at solution g so ≡ lineRead s at solution g so)
+  line-read-same : (at : ℕ) (verdict : Verdict) (g : Assignment) (so : List ℤ) → StepSeen n s (lineRead s at verdict g so)
+      → (wordSeen s at ≤ n) × (lineRead t at verdict g so ≡ lineRead s at verdict g so)
   unfolding endOfLine numbered
-  line-read-same at solution g so k =
+  line-read-same at verdict g so k =
       let e = lineEnd s at in
       tested (leb (length s) at)
       (λ y. let q : at + 2 ≤ n = rw y at k in absurd (omega (arith, leb-true (length s) at y)))
@@ -66,13 +63,13 @@ module _ {n : ℕ} {s t : List ℕ} (a : Alike n s t) where
       let q = go (row s ceiling room (reads b (r .so))) (row-spans s ceiling room (reads b (r .so))) (row-same a ceiling room (reads b (r .so))) k in
       rw (blanks-same a at (omega (arith, q .0))) (q .1)
     where
-      go : (w : Row) → RowSpans s (blanks s at) w → RowFollows a ceiling room (reads (blanks s at) (r .so)) w → StepSeen n s (valuesRead s (r .solution) w)
-          → (blanks s at + 2 ≤ n) × (valuesRead t (r .solution) (row t ceiling room (reads (blanks s at) (r .so))) ≡ valuesRead s (r .solution) w)
+      go : (w : Row) → RowSpans s (blanks s at) w → RowFollows a ceiling room (reads (blanks s at) (r .so)) w → StepSeen n s (valuesRead s (r .verdict) w)
+          → (blanks s at + 2 ≤ n) × (valuesRead t (r .verdict) (row t ceiling room (reads (blanks s at) (r .so))) ≡ valuesRead s (r .verdict) w)
       go (ends e so) p f k =
-          let q = line-read-same e (r .solution) Begun so k in
+          let q = line-read-same e (r .verdict) Begun so k in
           (row-reach n s (blanks s at) (ends e so) p (q .0), rw (f .1 (q .0)) (q .1))
       go (closes e so) p f k =
-          let q = line-read-same e (r .solution) Closed so k in
+          let q = line-read-same e (r .verdict) Closed so k in
           let l : e < n = omega (arith, past-spans s e isNotStop, q .0) in
           (row-reach n s (blanks s at) (closes e so) p l, rw (f .1 l) (q .1))
       go (stops x so) p f k = (row-reach n s (blanks s at) (stops x so) p k, rw (f .1 k))
@@ -89,23 +86,23 @@ module _ {n : ℕ} {s t : List ℕ} (a : Alike n s t) where
         let q = next d in
         (q .0, rw (fixed-same a w at o (omega (arith, q .0)), z) (q .1)))
         (λ z.
-        let d : StepSeen n s (lineRead s e (Said v) (r .assignment) (r .so)) = rw z at k in
-        let q = line-read-same e (Said v) (r .assignment) (r .so) d in
+        let d : StepSeen n s (lineRead s e v (r .assignment) (r .so)) = rw z at k in
+        let q = line-read-same e v (r .assignment) (r .so) d in
         let l : wordSeen s at ≤ n = there z (q .0) in
         (l, rw (fixed-same a w at o (omega arith), z) (q .1)))
       where
         there : unmoved at (fixed s w at) ≡ false → wordSeen s (fixed s w at) ≤ n → wordSeen s at ≤ n
         there z h =
             tested (begins w (drop at s))
-            (λ b. rw (sym (begins-word w s at o b), sym (fixed-is w s at b)) h)
+            (λ b. rw (sym (begins-run isNotStop w s at o b), sym (fixed-is w s at b)) h)
             (λ b. absurd (eqb-false (fixed s w at) at z (fixed-no w s at b)))
 
     solution-line-same : StepSeen n s (solutionLine s at r) → solutionLine t at r ≡ solutionLine s at r
     unfolding solutionLine numbered
     solution-line-same k =
-        solution-is-same Yes (bytes "SATISFIABLE") satisfiable _ _
-        (solution-is-same No (bytes "UNSATISFIABLE") (refl, (refl, satisfiable)) _ _
-        (solution-is-same Unknown (bytes "UNKNOWN") (refl, (refl, (refl, (refl, (refl, (refl, (refl, tt))))))) _ _
+        solution-is-same _ _ satisfiable _ _
+        (solution-is-same _ _ (refl, (refl, satisfiable)) _ _
+        (solution-is-same _ _ (refl, (refl, (refl, (refl, (refl, (refl, (refl, tt))))))) _ _
         (λ h. (h, refl))))
         k .1
       where
@@ -121,11 +118,11 @@ module _ {n : ℕ} {s t : List ℕ} (a : Alike n s t) where
       (λ y. let l : nextLine s e < n = rw y at k in rw (y, next-line-same a e l)))
 
   -- The end of the text is not seen.
-  end-unseen : (at : ℕ) (solution : Solution) (so : List ℤ) (g : Assignment) → length s ≤ at → logSeen s (logEnd s at solution so g) ≤ n → ⊥
+  end-unseen : (at : ℕ) (verdict : Verdict) (so : List ℤ) (g : Assignment) → length s ≤ at → logSeen s (logEnd s at verdict so g) ≤ n → ⊥
   unfolding numbered
-  end-unseen at solution so Unbegun h k = omega arith
-  end-unseen at solution so Begun h k = omega (arith, past-spans s at isNotStop)
-  end-unseen at solution so Closed h k = omega arith
+  end-unseen at verdict so Unbegun h k = omega arith
+  end-unseen at verdict so Begun h k = omega (arith, past-spans s at isNotStop)
+  end-unseen at verdict so Closed h k = omega arith
 
   other-line-same : (mode : Mode) (r : Log) → StepSeen n s (otherLine s mode r) → otherLine t mode r ≡ otherLine s mode r
   unfolding numbered
@@ -153,12 +150,12 @@ module _ {n : ℕ} {s t : List ℕ} (a : Alike n s t) where
         rw (strict-comment-same at h (omega arith), y)
         (tested (isClosed (r .assignment) || unmoved at v)
         (λ y₁. rw y₁
-        (tested (isSaid (r .solution) || unmoved at e)
+        (tested (isSaid (r .verdict) || unmoved at e)
         (λ y₂. rw y₂
         (tested (leb (length s) at)
         (λ y₃.
-        let q : logSeen s (logEnd s at (r .solution) (r .so) (r .assignment)) ≤ n = rw (y, y₁, y₂, y₃) at k in
-        absurd (end-unseen at (r .solution) (r .so) (r .assignment) (leb-true (length s) at y₃) q))
+        let q : logSeen s (logEnd s at (r .verdict) (r .so) (r .assignment)) ≤ n = rw (y, y₁, y₂, y₃) at k in
+        absurd (end-unseen at (r .verdict) (r .so) (r .assignment) (leb-true (length s) at y₃) q))
         (λ y₃.
         let q : StepSeen n s (otherLine s mode r) = rw (y, y₁, y₂, y₃) at k in
         rw (y₃, lt-leb (length t) at (omega arith)) (other-line-same mode r q))))
@@ -192,4 +189,4 @@ module _ {n : ℕ} {s t : List ℕ} (a : Alike n s t) where
 
     pub log-same : logSeen s (log s mode room) ≤ n → log t mode room ≡ log s mode room
     unfolding log
-    log-same k = let r = logAt 0 Unsaid Unbegun [] in log-by (suc (length s)) r (omega arith) k .1
+    log-same k = log-by (suc (length s)) _ (omega arith) k .1

@@ -26,7 +26,7 @@ use Rattle.dimacs.proofs.Spans.{past-spans, fixed-spans, blanks-spans, 
 use Rattle.dimacs.proofs.Lines.{line-end-LF}
 use Rattle.dimacs.proofs.Words.{fixed-no, fixed-is}
 use Rattle.dimacs.proofs.Numbers.{decimal-more, decimal-stop}
-use Rattle.dimacs.proofs.WordEnds.{NoStops, begins-cons, uint-ends, UintEnds, GroupEnds, braced-uint-ends, group-in-word, digits-in-word, line-end-long, NoLFBefore, begins-word}
+use Rattle.dimacs.proofs.WordEnds.{NoStops, begins-cons, uint-ends, UintEnds, GroupEnds, braced-uint-ends, group-in-word, digits-in-word, line-end-long, NoLFBefore, begins-run}
 use Rattle.dimacs.proofs.Alike.{Alike, past-same, blanks-same, line-end-same}
 
 -- A number that is the same but for the place past the blanks after it, and that too if it is before n.
@@ -67,7 +67,7 @@ module _ {n : ℕ} {s t : List ℕ} (a : Alike n s t) where
       let l : at < n = omega (arith, past-spans s at isNotStop) in
       begins-cons b w t at (omega arith)
       ∙ tested (isStop (getD s at 0))
-      (λ e. rw (a .same at l, ne-eqb b (getD s at 0) (λ z. unlike (sym e ∙ ap isStop (sym z) ∙ o .0))))
+      (λ e. rw (a .same at l, ne-eqb b (getD s at 0) (λ z. unlike (sym (o .0) ∙ ap isNotStop z ∙ ap not e))))
       (λ e. rw (a .same at l, begins-same w (at + 1) (o .1) (omega (arith, past-more isNotStop s at (omega arith) (ap not e)))))
       ∙ sym (begins-cons b w s at (omega arith))
 
@@ -96,7 +96,7 @@ module _ {n : ℕ} {s t : List ℕ} (a : Alike n s t) where
     fixed-before : fixed s w at < n
     fixed-before =
         tested (begins w (drop at s))
-        (λ e. omega (arith, fixed-is w s at e, begins-word w s at o e, past-spans s (at + length w) isNotStop))
+        (λ e. omega (arith, fixed-is w s at e, begins-run isNotStop w s at o e, past-spans s (at + length w) isNotStop))
         (λ e. omega (arith, fixed-no w s at e, past-spans s at isNotStop))
 
     -- The word stands in both or in neither, wherever the blanks after it end.

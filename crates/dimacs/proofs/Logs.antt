@@ -1,32 +1,28 @@
 -- The laws of reading a log: a line and then the rest of the lines. Assumes nothing.
-use Prim.Native.Nat.{ℕ, zero, suc, _+_, _-_, _≤_, _<_, max}
-use mathlib.Core.Bool.{Bool, true, false, _||_}
-use mathlib.Core.List.{List, [], _∷_}
-use mathlib.Core.Path.{_≡_, refl}
+use Prim.Native.Nat.{ℕ, suc, _-_, _<_}
+use mathlib.Core.Bool.{_||_}
+use mathlib.Core.List.{List}
+use mathlib.Core.Path.{_≡_}
 use native.Mathlib.Omega.{arith}
 use borrow.Author.Tests.{leb-false}
-use lib.Dec.{leb}
-use lib.ListN.{length, length-append}
+use lib.ListN.{length}
 use lib.IntN.{ℤ}
 use Rattle.dimacs.specs.Loop.{Step, again, answer}
 use Rattle.dimacs.specs.Bytes.{bytes}
 use Rattle.dimacs.specs.Names.{Reason, numbered, refusal, ceiling}
-use Rattle.dimacs.specs.Tokens.{unmoved, atEnd, blanks, nextLine, fixed, strictComment, endOfLine, lineEnds}
+use Rattle.dimacs.specs.Tokens.{unmoved, atEnd, blanks, fixed, strictComment, endOfLine, lineEnds}
 use Rattle.dimacs.specs.Rows.{Row, ends, closes, stops, reads, row}
 use Rattle.dimacs.specs.Logs.{LogAnswer, accepted, refusedLog, Log, logAt, isClosed, isSaid, lineRead, valuesRead, valueLine, solutionIs, solutionLine, logEnd, otherLine, logLine, logFrom, log}
 use Rattle.dimacs.specs.declared.Mode.{Mode}
 use Rattle.dimacs.specs.declared.Mode.the-variants.{Strict, Lenient}
 use Rattle.dimacs.specs.declared.Verdict.{Verdict}
-use Rattle.dimacs.specs.declared.Verdict.the-variants.{Yes, No, Unknown}
-use Rattle.dimacs.specs.declared.Solution.{Solution}
-use Rattle.dimacs.specs.declared.Solution.the-variants.{Unsaid}
 use Rattle.dimacs.specs.declared.Assignment.{Assignment}
 use Rattle.dimacs.specs.declared.Assignment.the-variants.{Unbegun, Begun, Closed}
 use Rattle.dimacs.specs.declared.EndOfLine.{EndOfLine}
 use Rattle.dimacs.specs.declared.EndOfLine.the-variants as end
 use Rattle.dimacs.proofs.Loops.{Leads, Falls, after, unrolled, kept}
 use Rattle.dimacs.proofs.Tests.{chosen, neither-right}
-use Rattle.dimacs.proofs.Spans.{Spans, then-spans, Moves, moves, then-moves, moves-then, EndCloses, end-closes, blanks-spans, strict-comment-spans, next-line-moves, fixed-spans}
+use Rattle.dimacs.proofs.Spans.{Spans, then-spans, Moves, moves, then-moves, EndCloses, end-closes, blanks-spans, strict-comment-spans, next-line-moves, fixed-spans}
 use Rattle.dimacs.proofs.Rows.{RowSpans, row-spans}
 
 -- A line leads to a later place within the text, or to an answer whose refusal is within reach.
@@ -39,12 +35,12 @@ LineLeads s at = Leads (λ l. Moves s at (l .at)) (LogSpans s at)
 
 module _ (s : List ℕ) (room : ℕ) where
   -- A line that is read from a place past its first bytes.
-  line-read-leads : (at e : ℕ) (solution : Solution) (a : Assignment) (so : List ℤ) → Moves s at e → LineLeads s at (lineRead s e solution a so)
+  line-read-leads : (at e : ℕ) (verdict : Verdict) (a : Assignment) (so : List ℤ) → Moves s at e → LineLeads s at (lineRead s e verdict a so)
   unfolding numbered
-  line-read-leads at e solution a so m = go (endOfLine s e) (end-closes s e)
+  line-read-leads at e verdict a so m = go (endOfLine s e) (end-closes s e)
     where
       go : (x : EndOfLine) → EndCloses s e x
-          → LineLeads s at (lineEnds x (λ next. again (logAt next solution a so)) (answer (refusedLog (refusal s Reason.lineEndExpected e) so)))
+          → LineLeads s at (lineEnds x (λ next. again (logAt next verdict a so)) (answer (refusedLog (refusal s Reason.lineEndExpected e) so)))
       go end.Missing c = omega arith
       go (end.Past n) c = omega arith
 
@@ -57,9 +53,9 @@ module _ (s : List ℕ) (room : ℕ) where
       k : Moves s at (blanks s e)
       k = then-moves m (blanks-spans s e)
 
-      go : (w : Row) → RowSpans s (blanks s e) w → LineLeads s at (valuesRead s (l .solution) w)
-      go (ends n so) h = line-read-leads at n (l .solution) Begun so (then-moves k h)
-      go (closes n so) h = line-read-leads at n (l .solution) Closed so (omega (arith, k))
+      go : (w : Row) → RowSpans s (blanks s e) w → LineLeads s at (valuesRead s (l .verdict) w)
+      go (ends n so) h = line-read-leads at n (l .verdict) Begun so (then-moves k h)
+      go (closes n so) h = line-read-leads at n (l .verdict) Closed so (omega (arith, k))
       go (stops r so) h = omega (arith, k)
 
   solution-is-leads : (at e : ℕ) (v : Verdict) (w : List ℕ) (l : Log) (otherwise : Step Log LogAnswer) → Moves s at e → LineLeads s at otherwise
@@ -71,16 +67,16 @@ module _ (s : List ℕ) (room : ℕ) where
   solution-line-leads : (at e : ℕ) (l : Log) → Moves s at e → LineLeads s at (solutionLine s e l)
   unfolding solutionLine numbered
   solution-line-leads at e l m =
-      solution-is-leads at e Yes (bytes "SATISFIABLE") l _ m
-      (solution-is-leads at e No (bytes "UNSATISFIABLE") l _ m
-      (solution-is-leads at e Unknown (bytes "UNKNOWN") l _ m
+      solution-is-leads at e _ _ l _ m
+      (solution-is-leads at e _ _ l _ m
+      (solution-is-leads at e _ _ l _ m
       (omega arith)))
 
-  log-end-spans : (at : ℕ) (solution : Solution) (so : List ℤ) (a : Assignment) → LogSpans s at (logEnd s at solution so a)
+  log-end-spans : (at : ℕ) (verdict : Verdict) (so : List ℤ) (a : Assignment) → LogSpans s at (logEnd s at verdict so a)
   unfolding numbered
-  log-end-spans at solution so Unbegun = tt
-  log-end-spans at solution so Begun = omega arith
-  log-end-spans at solution so Closed = tt
+  log-end-spans at verdict so Unbegun = tt
+  log-end-spans at verdict so Begun = omega arith
+  log-end-spans at verdict so Closed = tt
 
   other-line-leads : (mode : Mode) (l : Log) → l .at < length s → LineLeads s (l .at) (otherLine s mode l)
   unfolding numbered
@@ -98,11 +94,11 @@ module _ (s : List ℕ) (mode : Mode) (room : ℕ) where
       let e = fixed s (bytes "s ") at in
       chosen (LineLeads s at) (unmoved at c)
       (λ _. chosen (LineLeads s at) (isClosed (l .assignment) || unmoved at v)
-      (λ _. chosen (LineLeads s at) (isSaid (l .solution) || unmoved at e)
+      (λ _. chosen (LineLeads s at) (isSaid (l .verdict) || unmoved at e)
       (λ _. chosen (LineLeads s at) (atEnd s at)
-      (λ _. log-end-spans s room at (l .solution) (l .so) (l .assignment))
+      (λ _. log-end-spans s room at (l .verdict) (l .so) (l .assignment))
       (λ k. other-line-leads s room mode l (leb-false (length s) at k)))
-      (λ k. solution-line-leads s room at e l (moves (fixed-spans s at (bytes "s ")) (neither-right (isSaid (l .solution)) (unmoved at e) k))))
+      (λ k. solution-line-leads s room at e l (moves (fixed-spans s at (bytes "s ")) (neither-right (isSaid (l .verdict)) (unmoved at e) k))))
       (λ k. value-line-leads s room at v l (moves (fixed-spans s at (bytes "v ")) (neither-right (isClosed (l .assignment)) (unmoved at v) k))))
       (λ k. moves (strict-comment-spans s at) k)
 
@@ -120,13 +116,16 @@ module _ (s : List ℕ) (mode : Mode) (room : ℕ) where
   -- One line, and then the rest of them.
   pub log-step : (l : Log) → logFrom s mode room l ≡ after (logLine s mode room l) (logFrom s mode room)
   unfolding logFrom rest-of
-  log-step l = unrolled (logLine s mode room) (accepted Unknown []) rest-of log-falls (suc (length s)) l (omega arith)
+  log-step l = unrolled (logLine s mode room) _ rest-of log-falls (suc (length s)) l (omega arith)
+
+  -- What each line keeps, and each answer then has, the log's answer has.
+  pub log-kept : (P : Log → Type 0) (Q : LogAnswer → Type 0) → ((l : Log) → P l → Leads P Q (logLine s mode room l)) → (l : Log) → P l → Q (logFrom s mode room l)
+  unfolding logFrom rest-of
+  log-kept P Q keeps l = kept (logLine s mode room) _ rest-of log-falls P Q keeps (suc (length s)) l (omega arith)
 
   pub log-spans : LogSpans s 0 (log s mode room)
-  unfolding log logFrom rest-of
-  log-spans =
-      kept (logLine s mode room) (accepted Unknown []) rest-of log-falls (λ l. Spans s 0 (l .at)) (LogSpans s 0)
-      (λ l h. go (l .at) h (logLine s mode room l) (log-line-leads l)) (suc (length s)) (logAt 0 Unsaid Unbegun []) (omega arith) (omega arith)
+  unfolding log
+  log-spans = log-kept (λ l. Spans s 0 (l .at)) (LogSpans s 0) (λ l h. go (l .at) h (logLine s mode room l) (log-line-leads l)) _ (omega arith)
     where
       to : (at : ℕ) → Spans s 0 at → (a : LogAnswer) → LogSpans s at a → LogSpans s 0 a
       to at h (accepted v so) k = tt

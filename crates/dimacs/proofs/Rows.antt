@@ -48,6 +48,11 @@ module _ (s : List ℕ) (limit room : ℕ) where
   unfolding row
   row-step r = unrolled (nextInt s limit room) (ends 0 []) (left s) row-falls (suc (length s)) r (omega arith)
 
+  -- What each number keeps, and each answer then has, the row's answer has.
+  pub row-kept : (P : Reading → Type 0) (Q : Row → Type 0) → ((r : Reading) → P r → Leads P Q (nextInt s limit room r)) → (r : Reading) → P r → Q (row s limit room r)
+  unfolding row
+  row-kept P Q keeps r = kept (nextInt s limit room) _ (left s) row-falls P Q keeps (suc (length s)) r (omega arith)
+
   spans-on : (at : ℕ) (r : Reading) → Spans s at (r .at) → Leads (λ x. Spans s at (x .at)) (RowSpans s at) (nextInt s limit room r)
   unfolding nextInt numbered
   spans-on at r h = go (intAt s limit (r .at)) (int-moves s limit (r .at))
@@ -62,10 +67,7 @@ module _ (s : List ℕ) (limit room : ℕ) where
       go int.TooBig m = h
 
   pub row-spans : (r : Reading) → RowSpans s (r .at) (row s limit room r)
-  unfolding row
-  row-spans r =
-      kept (nextInt s limit room) (ends 0 []) (left s) row-falls (λ x. Spans s (r .at) (x .at)) (RowSpans s (r .at)) (spans-on (r .at))
-      (suc (length s)) r (omega arith) (omega arith)
+  row-spans r = row-kept (λ x. Spans s (r .at) (x .at)) (RowSpans s (r .at)) (spans-on (r .at)) r (omega arith)
 
   grows-on : (so : List ℤ) (r : Reading) → Grown room so (r .so) → Leads (λ x. Grown room so (x .so)) (λ x. Grown room so (readBy x)) (nextInt s limit room r)
   unfolding nextInt
@@ -83,10 +85,7 @@ module _ (s : List ℕ) (limit room : ℕ) where
       go int.TooBig = h
 
   pub row-grows : (r : Reading) → Grown room (r .so) (readBy (row s limit room r))
-  unfolding row
-  row-grows r =
-      kept (nextInt s limit room) (ends 0 []) (left s) row-falls (λ x. Grown room (r .so) (x .so)) (λ x. Grown room (r .so) (readBy x)) (grows-on (r .so))
-      (suc (length s)) r (omega arith) (omega arith)
+  row-grows r = row-kept (λ x. Grown room (r .so) (x .so)) (λ x. Grown room (r .so) (readBy x)) (grows-on (r .so)) r (omega arith)
 
 module _ (s : List ℕ) (limit room at : ℕ) (so : List ℤ) where
   on : {i : Int} → intAt s limit at ≡ i → row s limit room (reads at so) ≡ after (onInt s limit room i at so) (row s limit room)

@@ -22,6 +22,10 @@ pub both-right : (a b : Bool) → a && b ≡ true → b ≡ true
 both-right true b h = h
 both-right false b h = absurd (let z : _≡_ {A = ℕ} 0 1 = cc in omega arith)
 
+pub neither-left : (a b : Bool) → a || b ≡ false → a ≡ false
+neither-left true b h = absurd (let z : _≡_ {A = ℕ} 0 1 = cc in omega arith)
+neither-left false b h = refl
+
 pub neither-right : (a b : Bool) → a || b ≡ false → b ≡ false
 neither-right true b h = absurd (let z : _≡_ {A = ℕ} 0 1 = cc in omega arith)
 neither-right false b h = h

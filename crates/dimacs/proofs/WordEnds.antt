@@ -1,7 +1,7 @@
 -- Where words, numbers and lines end in a text: digits end within their word, and before the place past a number stands no LF. Assumes nothing.
 use Prim.Native.Nat.{ℕ, zero, suc, _+_, _-_, _≤_, _<_, min}
 use Prim.Native.Char.{code}
-use mathlib.Core.Bool.{Bool, true, false, not, _&&_}
+use mathlib.Core.Bool.{Bool, true, false, _&&_}
 use mathlib.Core.List.{List, [], _∷_}
 use mathlib.Core.Path.{_≡_, refl, ap, sym, _∙_}
 use native.Mathlib.Numerals.{add-one}
@@ -10,7 +10,7 @@ use borrow.Author.Tests.{ne-eqb, eqb-true, eqb-false, leb-true, leb-false, ltb-t
 use lib.Dec.{leb, eqb, ltb}
 use lib.ListN.{length, getD, drop}
 use lib.Seq.{drop-cons}
-use Rattle.dimacs.specs.Bytes.{LF, CR, isBlank, isDigit, isStop, isNotStop}
+use Rattle.dimacs.specs.Bytes.{LF, CR, isBlank, isDigit, isNotStop}
 use Rattle.dimacs.specs.Names.{ceiling}
 use Rattle.dimacs.specs.Tokens.{past, unmoved, Number, none, found, upTo, upToEitherWay, byteAt, blanks, lineEnd, newline, linebreaks, fixed, wordEnds, word, decimal, unsigned, braced, minus, uintAt, bracedUintAt, intAt, begins}
 use Rattle.dimacs.specs.declared.Int.{Int}
@@ -41,10 +41,14 @@ word-moved s w at h =
     none : word s w at ≡ at → ⊥
     none e = eqb-false (word s w at) at h e
 
+-- Each byte of a word passes a test.
+abbrev pub Passes : (ℕ → Bool) → List ℕ → Type 0
+Passes p [] = Unit {0}
+Passes p (b ∷ w) = (p b ≡ true) × Passes p w
+
 -- No byte of a word stops words.
 abbrev pub NoStops : List ℕ → Type 0
-NoStops [] = Unit {0}
-NoStops (b ∷ w) = (isStop b ≡ false) × NoStops w
+NoStops = Passes isNotStop
 
 pub begins-cons : (b : ℕ) (w s : List ℕ) (i : ℕ) → i < length s → begins (b ∷ w) (drop i s) ≡ eqb b (getD s i 0) && begins w (drop (i + 1) s)
 unfolding begins
@@ -59,10 +63,10 @@ word-no b w s at h =
     (λ e. begins-short (b ∷ w) s 0 at (omega arith) (leb-true (length s) at e))
     (λ e. begins-differs (b ∷ w) s 0 at (omega arith) (leb-false (length s) at e) h)))
 
--- A word goes on after the bytes with which it begins.
-pub begins-word : (w s : List ℕ) (at : ℕ) → NoStops w → begins w (drop at s) ≡ true → past isNotStop s (at + length w) ≡ past isNotStop s at
-begins-word [] s at o h = let i : at + 0 ≡ at = omega arith in rw i
-begins-word (b ∷ w) s at o h =
+-- A run goes on after the bytes with which it begins.
+pub begins-run : (p : ℕ → Bool) (w s : List ℕ) (at : ℕ) → Passes p w → begins w (drop at s) ≡ true → past p s (at + length w) ≡ past p s at
+begins-run p [] s at o h = let i : at + 0 ≡ at = omega arith in rw i
+begins-run p (b ∷ w) s at o h =
     tested (leb (length s) at)
     (λ e. unlike (sym h ∙ begins-short (b ∷ w) s 0 at (omega arith) (leb-true (length s) at e)))
     (λ e.
@@ -71,8 +75,8 @@ begins-word (b ∷ w) s at o h =
     let z = eqb-true b (getD s at 0) (both-left (eqb b (getD s at 0)) (begins w (drop (at + 1) s)) q) in
     let i : at + length (b ∷ w) ≡ at + 1 + length w = omega arith in
     rw i
-    (begins-word w s (at + 1) (o .1) (both-right (eqb b (getD s at 0)) (begins w (drop (at + 1) s)) q)
-    ∙ past-more isNotStop s at l (ap not (ap isStop (sym z) ∙ o .0))))
+    (begins-run p w s (at + 1) (o .1) (both-right (eqb b (getD s at 0)) (begins w (drop (at + 1) s)) q)
+    ∙ past-more p s at l (ap p (sym z) ∙ o .0)))
 
 -- A run is no longer than one of a weaker test.
 pub past-within : (p q : ℕ → Bool) → ((b : ℕ) → p b ≡ true → q b ≡ true) → (s : List ℕ) (m at : ℕ) → length s - at < m → past p s at ≤ past q s at

@@ -24,7 +24,7 @@ use Rattle.dimacs.specs.declared.Opening.{Opening}
 use Rattle.dimacs.specs.declared.Opening.the-variants as opening
 use Rattle.dimacs.specs.declared.Refusal.{Refusal}
 use Rattle.dimacs.specs.declared.Verdict.{Verdict}
-use Rattle.dimacs.specs.declared.Verdict.the-variants.{Yes, No, Unknown}
+use Rattle.dimacs.specs.declared.Verdict.the-variants.{Yes, No, Unknown, None}
 
 -- A line of what is said of a text: its header's counts; a clause, with its weight or group or 0; a refusal's number, place and k; a log's verdict.
 pub data Line : Type 0 where
@@ -177,7 +177,7 @@ readings =
     ∷ plain "p cnf 1 1\nc" (Header 1 1 0 ∷ Refused 9 11 0 ∷ [])
     ∷ strictLog "s SATISFIABLEx" (Refused 5 13 0 ∷ [])
     ∷ strictLog "c\t" (Refused 18 0 0 ∷ [])
-    ∷ lenientLog "c\t" (Says Unknown [] ∷ [])
+    ∷ lenientLog "c\t" (Says None [] ∷ [])
     ∷ plain "999999999999999999999999999999 0" (NoHeader ∷ Refused 15 0 0 ∷ [])
     ∷ weighted "p wcnf 1 1 1\n1 1 0\n99999999999999999999 1 0" (Header 1 1 1 ∷ Clause 1 (pos 1 ∷ []) ∷ Refused 9 19 0 ∷ [])
     ∷ strictLog "v " (Refused 19 2 0 ∷ [])
@@ -191,6 +191,23 @@ readings =
 pub readings-hold : Hold readings
 unfolding linesOf
 readings-hold = refl
+
+-- What a log says, by its solution line or for want of one.
+abbrev pub verdicts : List Case
+verdicts =
+    strictLog "s SATISFIABLE\nv 1 0\n" (Says Yes (pos 1 ∷ []) ∷ [])
+    ∷ strictLog "s UNSATISFIABLE\n" (Says No [] ∷ [])
+    ∷ strictLog "s UNKNOWN" (Says Unknown [] ∷ [])
+    ∷ strictLog "v 1 0\ns UNKNOWN\n" (Says Unknown (pos 1 ∷ []) ∷ [])
+    ∷ strictLog "" (Says None [] ∷ [])
+    ∷ strictLog "c s UNKNOWN\n" (Says None [] ∷ [])
+    ∷ strictLog "v 1 0\n" (Says None (pos 1 ∷ []) ∷ [])
+    ∷ lenientLog "UNKNOWN\nS UNKNOWN\n" (Says None [] ∷ [])
+    ∷ []
+
+pub verdicts-hold : Hold verdicts
+unfolding linesOf
+verdicts-hold = refl
 
 -- Texts of the 2022 form, which both modes read alike.
 abbrev pub in2022 : Mode → List Case

@@ -13,9 +13,7 @@ use Rattle.dimacs.specs.declared.Mode.{Mode}
 use Rattle.dimacs.specs.declared.Mode.the-variants.{Strict, Lenient}
 use Rattle.dimacs.specs.declared.Refusal.{Refusal}
 use Rattle.dimacs.specs.declared.Verdict.{Verdict}
-use Rattle.dimacs.specs.declared.Verdict.the-variants.{Yes, No, Unknown}
-use Rattle.dimacs.specs.declared.Solution.{Solution}
-use Rattle.dimacs.specs.declared.Solution.the-variants.{Unsaid, Said}
+use Rattle.dimacs.specs.declared.Verdict.the-variants.{Yes, No, Unknown, None}
 use Rattle.dimacs.specs.declared.Assignment.{Assignment}
 use Rattle.dimacs.specs.declared.Assignment.the-variants.{Unbegun, Begun, Closed}
 
@@ -24,16 +22,16 @@ pub data LogAnswer : Type 0 where
   accepted : Verdict → List ℤ → LogAnswer
   refusedLog : Refusal → List ℤ → LogAnswer
 
--- Reading a log: the place, the solution, the assignment and its literals so far.
+-- Reading a log: the place, the verdict, the assignment and its literals so far.
 pub record Log : Type 0 where
   pub at : ℕ
-  pub solution : Solution
+  pub verdict : Verdict
   pub assignment : Assignment
   pub so : List ℤ
 
 -- A state of reading by its four parts.
-abbrev pub logAt : ℕ → Solution → Assignment → List ℤ → Log
-logAt at solution assignment so = record { at = at; solution = solution; assignment = assignment; so = so }
+abbrev pub logAt : ℕ → Verdict → Assignment → List ℤ → Log
+logAt at verdict assignment so = record { at = at; verdict = verdict; assignment = assignment; so = so }
 
 -- The 0 has closed the assignment.
 abbrev pub isClosed : Assignment → Bool
@@ -42,31 +40,28 @@ isClosed Begun = false
 isClosed Closed = true
 
 -- The solution line has come.
-abbrev pub isSaid : Solution → Bool
-isSaid Unsaid = false
-isSaid (Said v) = true
-
--- No solution line gives unknown.
-abbrev pub verdictOf : Solution → Verdict
-verdictOf Unsaid = Unknown
-verdictOf (Said v) = v
+abbrev pub isSaid : Verdict → Bool
+isSaid Yes = true
+isSaid No = true
+isSaid Unknown = true
+isSaid None = false
 
 module _ (s : List ℕ) where
   -- A value line or solution line is read: a line end or the end of the text must follow.
-  abbrev pub lineRead : ℕ → Solution → Assignment → List ℤ → Step Log LogAnswer
-  lineRead at solution assignment so =
-      lineEnds (endOfLine s at) (λ next. again (logAt next solution assignment so)) (answer (refusedLog (refusal s Reason.lineEndExpected at) so))
+  abbrev pub lineRead : ℕ → Verdict → Assignment → List ℤ → Step Log LogAnswer
+  lineRead at verdict assignment so =
+      lineEnds (endOfLine s at) (λ next. again (logAt next verdict assignment so)) (answer (refusedLog (refusal s Reason.lineEndExpected at) so))
 
   -- What follows the literals of a line.
-  abbrev pub valuesRead : Solution → Row → Step Log LogAnswer
-  valuesRead solution (ends at so) = lineRead at solution Begun so
-  valuesRead solution (closes next so) = lineRead next solution Closed so
-  valuesRead solution (stops r so) = answer (refusedLog r so)
+  abbrev pub valuesRead : Verdict → Row → Step Log LogAnswer
+  valuesRead verdict (ends at so) = lineRead at verdict Begun so
+  valuesRead verdict (closes next so) = lineRead next verdict Closed so
+  valuesRead verdict (stops r so) = answer (refusedLog r so)
 
   -- A verdict by its word, or what follows where that does not stand.
   abbrev pub solutionIs : Verdict → List ℕ → ℕ → Log → Step Log LogAnswer → Step Log LogAnswer
   solutionIs v w at r otherwise =
-      let e = fixed s w at in cond (unmoved at e) otherwise (lineRead e (Said v) (r .assignment) (r .so))
+      let e = fixed s w at in cond (unmoved at e) otherwise (lineRead e v (r .assignment) (r .so))
 
   -- After `s `, one of three words and at once a line end or the end of the text.
   unfoldable pub solutionLine : ℕ → Log → Step Log LogAnswer
@@ -77,20 +72,20 @@ module _ (s : List ℕ) where
       (answer (refusedLog (refusal s Reason.solutionExpected at) (r .so)))))
 
   -- The end of the text may not come while the assignment is open.
-  abbrev pub logEnd : ℕ → Solution → List ℤ → Assignment → LogAnswer
-  logEnd at solution so Unbegun = accepted (verdictOf solution) so
-  logEnd at solution so Begun = refusedLog (refusal s Reason.assignmentOpen at) so
-  logEnd at solution so Closed = accepted (verdictOf solution) so
+  abbrev pub logEnd : ℕ → Verdict → List ℤ → Assignment → LogAnswer
+  logEnd at verdict so Unbegun = accepted verdict so
+  logEnd at verdict so Begun = refusedLog (refusal s Reason.assignmentOpen at) so
+  logEnd at verdict so Closed = accepted verdict so
 
   -- A line of no permitted kind is refused, or skipped in the lenient mode.
   abbrev pub otherLine : Mode → Log → Step Log LogAnswer
   otherLine Strict r = answer (refusedLog (refusal s Reason.logLineExpected (r .at)) (r .so))
-  otherLine Lenient r = again (logAt (nextLine s (r .at)) (r .solution) (r .assignment) (r .so))
+  otherLine Lenient r = again (logAt (nextLine s (r .at)) (r .verdict) (r .assignment) (r .so))
 
 module _ (s : List ℕ) (room : ℕ) where
   -- After `v `, blanks, and literals up to the line's end or the closing 0.
   unfoldable pub valueLine : ℕ → Log → Step Log LogAnswer
-  valueLine at r = valuesRead s (r .solution) (row s ceiling room (reads (blanks s at) (r .so)))
+  valueLine at r = valuesRead s (r .verdict) (row s ceiling room (reads (blanks s at) (r .so)))
 
 module _ (s : List ℕ) (mode : Mode) (room : ℕ) where
   -- A comment is skipped. Else in this order: `v ` while no 0 has closed the assignment; `s ` if no solution line came; the end of
@@ -103,16 +98,16 @@ module _ (s : List ℕ) (mode : Mode) (room : ℕ) where
       let e = fixed s (bytes "s ") at in
       cond (unmoved at c)
       (cond (isClosed (r .assignment) || unmoved at v)
-      (cond (isSaid (r .solution) || unmoved at e)
-      (cond (atEnd s at) (answer (logEnd s at (r .solution) (r .so) (r .assignment))) (otherLine s mode r))
+      (cond (isSaid (r .verdict) || unmoved at e)
+      (cond (atEnd s at) (answer (logEnd s at (r .verdict) (r .so) (r .assignment))) (otherLine s mode r))
       (solutionLine s e r))
       (valueLine s room v r))
-      (again (logAt c (r .solution) (r .assignment) (r .so)))
+      (again (logAt c (r .verdict) (r .assignment) (r .so)))
 
   -- The log from a state on.
   unfoldable pub logFrom : Log → LogAnswer
-  logFrom = loop logLine (accepted Unknown []) (suc (length s))
+  logFrom = loop logLine (accepted None []) (suc (length s))
 
-  -- The log s, read in a mode with room for so many literals in all.
+  -- The log s, read in a mode with room for so many literals in all. Its verdict is none unless a solution line comes.
   unfoldable pub log : LogAnswer
-  log = logFrom (logAt 0 Unsaid Unbegun [])
+  log = logFrom (logAt 0 None Unbegun [])

@@ -283,17 +283,12 @@ pub struct Progress {
     pub last: Final,
 }
 
-// What a solver says of its formula: satisfiable, unsatisfiable, or that it does not know.
+// What a log says of its formula: satisfiable, unsatisfiable, or that the solver does not know; or nothing, as no solution line stands.
 pub enum Verdict {
     Yes,
     No,
     Unknown,
-}
-
-// What a log said of its formula: no solution line came, or it said a verdict.
-pub enum Solution {
-    Unsaid,
-    Said(Verdict),
+    None,
 }
 
 // A log's assignment has no line yet, or waits for its 0, or is closed by it.

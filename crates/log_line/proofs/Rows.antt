@@ -10,7 +10,7 @@ use Rattle.dimacs.specs.Tokens.{endOfLine, lineEnds}
 use Rattle.dimacs.specs.Rows as row
 use Rattle.dimacs.specs.Rows.{readBy}
 use Rattle.dimacs.specs.Logs as def
-use Rattle.dimacs.specs.declared.Solution.{Solution}
+use Rattle.dimacs.specs.declared.Verdict.{Verdict}
 use Rattle.dimacs.specs.declared.Assignment.{Assignment}
 use Rattle.dimacs.specs.declared.Assignment.the-variants.{Begun, Closed}
 use Rattle.dimacs.specs.declared.EndOfLine.{EndOfLine}
@@ -38,29 +38,29 @@ log-k-left (def.refusedLog r so) = refl
 pub one-count : {A : Type 0} {n : ℕ} {f : List ℤ → A} {r₁ r₂ : A} → ByCount n f r₁ → ByCount n f r₂ → r₁ ≡ r₂
 one-count {n = n} p q = let so = replicate n (pos 0) in let e = length-replicate n (pos 0) in p so e ∙ sym (q so e)
 
-pub line-read-leaves : (s : List ℕ) (at : ℕ) (solution : Solution) (a : Assignment) (so : List ℤ) → lineLeaves (def.lineRead s at solution a so) ≡ so
-line-read-leaves s at solution a so = go (endOfLine s at)
+pub line-read-leaves : (s : List ℕ) (at : ℕ) (verdict : Verdict) (a : Assignment) (so : List ℤ) → lineLeaves (def.lineRead s at verdict a so) ≡ so
+line-read-leaves s at verdict a so = go (endOfLine s at)
   where
     go : (x : EndOfLine)
-        → lineLeaves (lineEnds x (λ next. again (def.logAt next solution a so)) (answer (def.refusedLog (refusal s Reason.lineEndExpected at) so))) ≡ so
+        → lineLeaves (lineEnds x (λ next. again (def.logAt next verdict a so)) (answer (def.refusedLog (refusal s Reason.lineEndExpected at) so))) ≡ so
     go end.Missing = refl
     go (end.Past n) = refl
 
-module _ (s : List ℕ) (solution : Solution) (d : row.Row) (old new : List ℤ) where
+module _ (s : List ℕ) (verdict : Verdict) (d : row.Row) (old new : List ℤ) where
   -- What is read of a line at a place, after so many literals.
   abbrev ReadAt : ℕ → Assignment → ℕ → Line → Type 0
-  ReadAt n a count = ByCount count (λ so. logLineOf (def.lineRead s n solution a so))
+  ReadAt n a count = ByCount count (λ so. logLineOf (def.lineRead s n verdict a so))
 
   -- What the values of a line lead to.
   abbrev ValuesLead : Row → Type 0
-  ValuesLead (Ends n count) = (r : Line) → ReadAt n Begun count r → ReadsLine (def.valuesRead s solution d) old new r
-  ValuesLead (Closes n count) = (r : Line) → ReadAt n Closed count r → ReadsLine (def.valuesRead s solution d) old new r
-  ValuesLead (Stops x count) = ReadsLine (def.valuesRead s solution d) old new (Answer (Refused x count))
+  ValuesLead (Ends n count) = (r : Line) → ReadAt n Begun count r → ReadsLine (def.valuesRead s verdict d) old new r
+  ValuesLead (Closes n count) = (r : Line) → ReadAt n Closed count r → ReadsLine (def.valuesRead s verdict d) old new r
+  ValuesLead (Stops x count) = ReadsLine (def.valuesRead s verdict d) old new (Answer (Refused x count))
 
   pub values-lead : {r m : Row} → ReadsRow d old new r → r ≡ m → ValuesLead m
   values-lead h e = subst ValuesLead (sym (h .row) ∙ e) (go d refl (h .buffer))
     where
       go : (x : row.Row) → d ≡ x → new ≡ laid (readBy x) old → ValuesLead (rowOf x)
-      go (row.ends n so) e b = λ r is. rw e (record { line = is so refl; buffer = rw (line-read-leaves s n solution Begun so) b })
-      go (row.closes n so) e b = λ r is. rw e (record { line = is so refl; buffer = rw (line-read-leaves s n solution Closed so) b })
+      go (row.ends n so) e b = λ r is. rw e (record { line = is so refl; buffer = rw (line-read-leaves s n verdict Begun so) b })
+      go (row.closes n so) e b = λ r is. rw e (record { line = is so refl; buffer = rw (line-read-leaves s n verdict Closed so) b })
       go (row.stops x so) e b = rw e (record { line = refl; buffer = b })

@@ -16,11 +16,11 @@ use Rattle.log_line.specs.Answers.{logOf, logLeaves}
 
 -- A state of the code with the literals so far is one of the definition.
 abbrev pub logStateOf : Reading → List ℤ → def.Log
-logStateOf r so = def.logAt (r .place) (r .solution) (r .assignment) so
+logStateOf r so = def.logAt (r .place) (r .verdict) (r .assignment) so
 
 -- A state of the definition is one of the code with its literals counted.
 abbrev pub readingOf : def.Log → Reading
-readingOf l = record { place = l .at; solution = l .solution; assignment = l .assignment; count = length (l .so) }
+readingOf l = record { place = l .at; verdict = l .verdict; assignment = l .assignment; count = length (l .so) }
 
 -- What a line leads to, with its literals counted.
 abbrev pub logLineOf : Step def.Log def.LogAnswer → Line

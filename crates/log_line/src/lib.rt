@@ -1,7 +1,7 @@
 // The lines of a solver log: what each kind of line leads to, with its literals read into a lent buffer.
 ghost use mathlib.Core.Path.{_≡_};
 ghost use lib.ListN.{length, take};
-ghost use Rattle.dimacs.specs.Logs.{verdictOf, lineRead, solutionLine, logEnd, otherLine, valueLine};
+ghost use Rattle.dimacs.specs.Logs.{lineRead, solutionLine, logEnd, otherLine, valueLine};
 ghost use Rattle.rows.specs.Answers.{ByCount};
 ghost use Rattle.log_line.specs.Answers.{logOf};
 ghost use Rattle.log_line.specs.Lines.{logStateOf, logLineOf, lineRefused, ReadsLine};
@@ -14,7 +14,6 @@ use dimacs::LOG_LINE_EXPECTED;
 use dimacs::Mode;
 use dimacs::Refusal;
 use dimacs::SOLUTION_EXPECTED;
-use dimacs::Solution;
 use dimacs::Verdict;
 use dimacs::refuse;
 use rows::Row;
@@ -27,10 +26,10 @@ pub enum Log {
     Refused { refusal: Refusal, count: usize },
 }
 
-// Where a log is read: the place, what was said, how far the assignment is, and how many literals the buffer holds.
+// Where a log is read: the place, the verdict so far, how far the assignment is, and how many literals the buffer holds.
 pub struct Reading {
     pub place: usize,
-    pub solution: Solution,
+    pub verdict: Verdict,
     pub assignment: Assignment,
     pub count: usize,
 }
@@ -52,20 +51,14 @@ fn refused(text: &[u8], number: u8, place: usize, count: usize) -> Line
 }
 
 // A value line or solution line is read: what closes it.
-fn line_read(
-    text: &[u8],
-    at: usize,
-    solution: Solution,
-    assignment: Assignment,
-    count: usize,
-) -> Line
-    ensures { λ r. ⌜ ByCount count (λ so. logLineOf (lineRead (now (text .entry)) at solution assignment so)) r ⌝ }
+fn line_read(text: &[u8], at: usize, verdict: Verdict, assignment: Assignment, count: usize) -> Line
+    ensures { λ r. ⌜ ByCount count (λ so. logLineOf (lineRead (now (text .entry)) at verdict assignment so)) r ⌝ }
 {
     match token::interactive_end_of_line(text, at) {
         EndOfLine::Missing => refused(text, LINE_END_EXPECTED, at, count),
         EndOfLine::Past(place) => Line::Again(Reading {
             place,
-            solution,
+            verdict,
             assignment,
             count,
         }),
@@ -76,12 +69,12 @@ fn line_read(
 pub fn value_line(text: &[u8], at: usize, reading: Reading, lits: &mut [i32]) -> Line
     ensures { λ r. ⌜ ReadsLine (valueLine (now (text .entry)) (length (now (lits .entry))) at (logStateOf reading (take (reading .count) (now (lits .entry))))) (now (lits .entry)) (now (lits .exit)) r ⌝ }
 {
-    let solution = reading.solution;
+    let verdict = reading.verdict;
     let from = token::skip_whitespace(text, at);
     match rows::ints(text, from, CEILING, reading.count, lits) {
-        Row::Ends { place, count } => line_read(text, place, solution, Assignment::Begun, count),
+        Row::Ends { place, count } => line_read(text, place, verdict, Assignment::Begun, count),
         Row::Closes { place, count } => {
-            line_read(text, place, solution, Assignment::Closed, count)
+            line_read(text, place, verdict, Assignment::Closed, count)
         }
         Row::Stops { refusal, count } => Line::Answer(Log::Refused { refusal, count }),
     }
@@ -95,43 +88,26 @@ pub fn solution_line(text: &[u8], at: usize, reading: Reading) -> Line
     let count = reading.count;
     let yes = token::fixed(text, at, b"SATISFIABLE");
     if yes != at {
-        return line_read(text, yes, Solution::Said(Verdict::Yes), assignment, count);
+        return line_read(text, yes, Verdict::Yes, assignment, count);
     }
     let no = token::fixed(text, at, b"UNSATISFIABLE");
     if no != at {
-        return line_read(text, no, Solution::Said(Verdict::No), assignment, count);
+        return line_read(text, no, Verdict::No, assignment, count);
     }
     let unknown = token::fixed(text, at, b"UNKNOWN");
     if unknown != at {
-        return line_read(
-            text,
-            unknown,
-            Solution::Said(Verdict::Unknown),
-            assignment,
-            count,
-        );
+        return line_read(text, unknown, Verdict::Unknown, assignment, count);
     }
     refused(text, SOLUTION_EXPECTED, at, count)
 }
 
-// The verdict, which is unknown if no solution line came.
-fn verdict_of(solution: Solution) -> Verdict
-    ensures { λ r. ⌜ r ≡ verdictOf solution ⌝ }
-{
-    match solution {
-        Solution::Unsaid => Verdict::Unknown,
-        Solution::Said(verdict) => verdict,
-    }
-}
-
 // The end of the text, which may not come while the assignment is open.
 pub fn log_end(text: &[u8], reading: Reading) -> Log
-    ensures { λ r. ⌜ ByCount (reading .count) (λ so. logOf (logEnd (now (text .entry)) (reading .place) (reading .solution) so (reading .assignment))) r ⌝ }
+    ensures { λ r. ⌜ ByCount (reading .count) (λ so. logOf (logEnd (now (text .entry)) (reading .place) (reading .verdict) so (reading .assignment))) r ⌝ }
 {
-    let solution = reading.solution;
+    let verdict = reading.verdict;
     let assignment = reading.assignment;
     let count = reading.count;
-    let verdict = verdict_of(solution);
     match assignment {
         Assignment::Unbegun => Log::Accepted { verdict, count },
         Assignment::Begun => Log::Refused {
@@ -147,14 +123,14 @@ pub fn other_line(text: &[u8], mode: Mode, reading: Reading) -> Line
     ensures { λ r. ⌜ ByCount (reading .count) (λ so. logLineOf (otherLine (now (text .entry)) mode (logStateOf reading so))) r ⌝ }
 {
     let place = reading.place;
-    let solution = reading.solution;
+    let verdict = reading.verdict;
     let assignment = reading.assignment;
     let count = reading.count;
     match mode {
         Mode::Strict => refused(text, LOG_LINE_EXPECTED, place, count),
         Mode::Lenient => Line::Again(Reading {
             place: token::interactive_skip_line(text, place),
-            solution,
+            verdict,
             assignment,
             count,
         }),

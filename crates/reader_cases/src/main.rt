@@ -126,6 +126,7 @@ fn verdict_line(page: &mut [u8], verdict: Verdict) -> usize {
         Verdict::Yes => word(page, 0, b"verdict yes\n"),
         Verdict::No => word(page, 0, b"verdict no\n"),
         Verdict::Unknown => word(page, 0, b"verdict unknown\n"),
+        Verdict::None => word(page, 0, b"verdict none\n"),
     }
 }
 

@@ -16,12 +16,9 @@ use Rattle.dimacs.specs.Rows as row
 use Rattle.dimacs.specs.Logs as def
 use Rattle.dimacs.specs.declared.Mode.{Mode}
 use Rattle.dimacs.specs.declared.Mode.the-variants.{Strict, Lenient}
-use Rattle.dimacs.specs.declared.Solution.{Solution}
-use Rattle.dimacs.specs.declared.Solution.the-variants.{Said}
 use Rattle.dimacs.specs.declared.Assignment.{Assignment}
 use Rattle.dimacs.specs.declared.Assignment.the-variants.{Unbegun, Begun, Closed}
 use Rattle.dimacs.specs.declared.Verdict.{Verdict}
-use Rattle.dimacs.specs.declared.Verdict.the-variants.{Yes, No, Unknown}
 use Rattle.dimacs.proofs.Tests.{chosen}
 use Rattle.dimacs.proofs.Rows.{Grown, row-grows}
 use Rattle.dimacs.proofs.Buffer.{kept-unchanged, kept-in-place}
@@ -40,20 +37,20 @@ module _ (s : List ℕ) where
   solution-is-leaves : (v : Verdict) (w : List ℕ) (at : ℕ) (l : def.Log) (t : Step def.Log def.LogAnswer) → lineLeaves t ≡ l .so
       → lineLeaves (def.solutionIs s v w at l t) ≡ l .so
   solution-is-leaves v w at l t h =
-      chosen (λ d. lineLeaves d ≡ l .so) (unmoved at (fixed s w at)) (λ _. h) (λ _. line-read-leaves s (fixed s w at) (Said v) (l .assignment) (l .so))
+      chosen (λ d. lineLeaves d ≡ l .so) (unmoved at (fixed s w at)) (λ _. h) (λ _. line-read-leaves s (fixed s w at) v (l .assignment) (l .so))
 
   solution-line-leaves : (at : ℕ) (l : def.Log) → lineLeaves (def.solutionLine s at l) ≡ l .so
   unfolding def.solutionLine
   solution-line-leaves at l =
-      solution-is-leaves Yes (bytes "SATISFIABLE") at l _
-      (solution-is-leaves No (bytes "UNSATISFIABLE") at l _
-      (solution-is-leaves Unknown (bytes "UNKNOWN") at l _
+      solution-is-leaves _ _ at l _
+      (solution-is-leaves _ _ at l _
+      (solution-is-leaves _ _ at l _
       refl))
 
-  log-end-leaves : (at : ℕ) (solution : Solution) (so : List ℤ) (a : Assignment) → logLeaves (def.logEnd s at solution so a) ≡ so
-  log-end-leaves at solution so Unbegun = refl
-  log-end-leaves at solution so Begun = refl
-  log-end-leaves at solution so Closed = refl
+  log-end-leaves : (at : ℕ) (verdict : Verdict) (so : List ℤ) (a : Assignment) → logLeaves (def.logEnd s at verdict so a) ≡ so
+  log-end-leaves at verdict so Unbegun = refl
+  log-end-leaves at verdict so Begun = refl
+  log-end-leaves at verdict so Closed = refl
 
   other-line-leaves : (mode : Mode) (l : def.Log) → lineLeaves (def.otherLine s mode l) ≡ l .so
   other-line-leaves Strict l = refl
@@ -88,11 +85,11 @@ module _ (s : List ℕ) (mode : Mode) (x : Reading) (old : List ℤ) (fits : x .
   many : length (take (x .count) old) ≡ x .count
   many = length-take-le (x .count) old fits
 
-  comment-line-is : (c ≡ x .place → ⊥) → lineAt s mode old x ≡ again (def.logAt c (x .solution) (x .assignment) (take (x .count) old))
+  comment-line-is : (c ≡ x .place → ⊥) → lineAt s mode old x ≡ again (def.logAt c (x .verdict) (x .assignment) (take (x .count) old))
   unfolding def.logLine
   comment-line-is h = rw (sym c-is, ne-eqb c (x .place) h)
 
-  pub comment-line : (c ≡ x .place → ⊥) → ReadsLine (lineAt s mode old x) old old (Again (record { place = c; solution = x .solution; assignment = x .assignment; count = x .count }))
+  pub comment-line : (c ≡ x .place → ⊥) → ReadsLine (lineAt s mode old x) old old (Again (record { place = c; verdict = x .verdict; assignment = x .assignment; count = x .count }))
   comment-line h = line-adds-none fits (comment-line-is h) refl (rw many)
 
   module _ (c-no : c ≡ x .place) (v : ℕ) (v-is : v ≡ valueStart s (x .assignment) (x .place)) where
@@ -106,14 +103,14 @@ module _ (s : List ℕ) (mode : Mode) (x : Reading) (old : List ℤ) (fits : x .
         → ReadsLine (lineAt s mode old x) old new r
     value-line h g = rw (value-line-is h) g
 
-    module _ (v-no : v ≡ x .place) (e : ℕ) (e-is : e ≡ solutionStart s (x .solution) (x .place)) where
+    module _ (v-no : v ≡ x .place) (e : ℕ) (e-is : e ≡ solutionStart s (x .verdict) (x .place)) where
       no-values : def.isClosed (x .assignment) || unmoved (x .place) (fixed s (bytes "v ") (x .place)) ≡ true
       no-values = starts-not (def.isClosed (x .assignment)) v (fixed s (bytes "v ") (x .place)) (x .place) v-is v-no
 
       solution-line-is : (e ≡ x .place → ⊥) → lineAt s mode old x ≡ def.solutionLine s e (logStateOf x (take (x .count) old))
       unfolding def.logLine
       solution-line-is h =
-          let i = starts-so (def.isSaid (x .solution)) e (fixed s (bytes "s ") (x .place)) (x .place) e-is h in
+          let i = starts-so (def.isSaid (x .verdict)) e (fixed s (bytes "s ") (x .place)) (x .place) e-is h in
           rw (sym c-is, eq-eqb c (x .place) c-no, no-values, i .0, i .1)
 
       pub solution-line : (e ≡ x .place → ⊥) → {r : Line} → ByCount (x .count) (λ so. logLineOf (def.solutionLine s e (logStateOf x so))) r
@@ -121,16 +118,16 @@ module _ (s : List ℕ) (mode : Mode) (x : Reading) (old : List ℤ) (fits : x .
       solution-line h is = line-adds-none fits (solution-line-is h) (solution-line-leaves s e (logStateOf x (take (x .count) old))) (is (take (x .count) old) many)
 
       module _ (e-no : e ≡ x .place) where
-        no-solution : def.isSaid (x .solution) || unmoved (x .place) (fixed s (bytes "s ") (x .place)) ≡ true
-        no-solution = starts-not (def.isSaid (x .solution)) e (fixed s (bytes "s ") (x .place)) (x .place) e-is e-no
+        no-solution : def.isSaid (x .verdict) || unmoved (x .place) (fixed s (bytes "s ") (x .place)) ≡ true
+        no-solution = starts-not (def.isSaid (x .verdict)) e (fixed s (bytes "s ") (x .place)) (x .place) e-is e-no
 
-        last-line-is : atEnd s (x .place) ≡ true → lineAt s mode old x ≡ answer (def.logEnd s (x .place) (x .solution) (take (x .count) old) (x .assignment))
+        last-line-is : atEnd s (x .place) ≡ true → lineAt s mode old x ≡ answer (def.logEnd s (x .place) (x .verdict) (take (x .count) old) (x .assignment))
         unfolding def.logLine
         last-line-is t = rw (sym c-is, eq-eqb c (x .place) c-no, no-values, no-solution, t)
 
         pub last-line : atEnd s (x .place) ≡ true → {a : Log}
-            → ByCount (x .count) (λ so. logOf (def.logEnd s (x .place) (x .solution) so (x .assignment))) a → ReadsLine (lineAt s mode old x) old old (Answer a)
-        last-line t is = line-adds-none fits (last-line-is t) (log-end-leaves s (x .place) (x .solution) (take (x .count) old) (x .assignment)) (ap Answer (is (take (x .count) old) many))
+            → ByCount (x .count) (λ so. logOf (def.logEnd s (x .place) (x .verdict) so (x .assignment))) a → ReadsLine (lineAt s mode old x) old old (Answer a)
+        last-line t is = line-adds-none fits (last-line-is t) (log-end-leaves s (x .place) (x .verdict) (take (x .count) old) (x .assignment)) (ap Answer (is (take (x .count) old) many))
 
         other-line-is : atEnd s (x .place) ≡ false → lineAt s mode old x ≡ def.otherLine s mode (logStateOf x (take (x .count) old))
         unfolding def.logLine
@@ -154,9 +151,9 @@ module _ (s : List ℕ) (mode : Mode) (room : ℕ) (l : def.Log) where
       let r = row.reads (blanks s at) (l .so) in
       go (row.row s ceiling room r) (row-grows s ceiling room r)
     where
-      go : (d : row.Row) → Grown room (l .so) (row.readBy d) → Grown room (l .so) (lineLeaves (def.valuesRead s (l .solution) d))
-      go (row.ends n so) g = subst⁻¹ (Grown room (l .so)) (line-read-leaves s n (l .solution) Begun so) g
-      go (row.closes n so) g = subst⁻¹ (Grown room (l .so)) (line-read-leaves s n (l .solution) Closed so) g
+      go : (d : row.Row) → Grown room (l .so) (row.readBy d) → Grown room (l .so) (lineLeaves (def.valuesRead s (l .verdict) d))
+      go (row.ends n so) g = subst⁻¹ (Grown room (l .so)) (line-read-leaves s n (l .verdict) Begun so) g
+      go (row.closes n so) g = subst⁻¹ (Grown room (l .so)) (line-read-leaves s n (l .verdict) Closed so) g
       go (row.stops r so) g = g
 
   -- A line adds literals or none, and only while there is room.
@@ -169,10 +166,10 @@ module _ (s : List ℕ) (mode : Mode) (room : ℕ) (l : def.Log) where
       let e = fixed s (bytes "s ") at in
       chosen Grows (unmoved at c)
       (λ _. chosen Grows (def.isClosed (l .assignment) || unmoved at v)
-      (λ _. chosen Grows (def.isSaid (l .solution) || unmoved at e)
+      (λ _. chosen Grows (def.isSaid (l .verdict) || unmoved at e)
       (λ _. chosen Grows (atEnd s at)
-      (λ _. same-grows (answer (def.logEnd s at (l .solution) (l .so) (l .assignment))) (log-end-leaves s at (l .solution) (l .so) (l .assignment)))
+      (λ _. same-grows (answer (def.logEnd s at (l .verdict) (l .so) (l .assignment))) (log-end-leaves s at (l .verdict) (l .so) (l .assignment)))
       (λ _. same-grows (def.otherLine s mode l) (other-line-leaves s mode l)))
       (λ _. same-grows (def.solutionLine s e l) (solution-line-leaves s e l)))
       (λ _. value-line-grows v))
-      (λ _. same-grows (again (def.logAt c (l .solution) (l .assignment) (l .so))) refl)
+      (λ _. same-grows (again (def.logAt c (l .verdict) (l .assignment) (l .so))) refl)

@@ -1,14 +1,14 @@
 -- The loop over the lines of a log: what it comes to from here on is what it comes to from the start. Assumes nothing.
 use Prim.Native.Nat.{ℕ, _-_, _≤_, _<_}
-use mathlib.Core.List.{List, []}
-use mathlib.Core.Path.{_≡_, refl, ap, sym, _∙_, subst}
+use mathlib.Core.List.{List}
+use mathlib.Core.Path.{_≡_, refl, sym, _∙_, subst}
 use native.Mathlib.Omega.{arith}
 use lib.ListN.{length, take, drop, length-append}
 use lib.IntN.{ℤ}
 use Rattle.dimacs.specs.Loop.{Step, again, answer}
 use Rattle.dimacs.specs.Logs as def
 use Rattle.dimacs.specs.declared.Mode.{Mode}
-use Rattle.dimacs.specs.declared.Solution.the-variants.{Unsaid}
+use Rattle.dimacs.specs.declared.Verdict.the-variants.{None}
 use Rattle.dimacs.specs.declared.Assignment.the-variants.{Unbegun}
 use Rattle.dimacs.proofs.Loops.{after}
 use Rattle.dimacs.proofs.Logs.{LineLeads, log-line-leads, log-step}
@@ -17,7 +17,6 @@ use Rattle.dimacs.proofs.Buffer.{Kept, kept-unchanged, kept-count, kept-beyond,
 use Rattle.log_line.specs.Answers.{logOf, kIn, logLeaves}
 use Rattle.log_line.specs.Lines.{logStateOf, readingOf, logLineOf, lineLeaves, ReadsLine}
 use Rattle.log_line.specs.declared.Log.{Log}
-use Rattle.log_line.specs.declared.Log.the-variants.{Accepted, Refused}
 use Rattle.log_line.specs.declared.Reading.{Reading}
 use Rattle.log_line.specs.declared.Line.the-variants.{Again, Answer}
 use Rattle.log_line.proofs.Rows.{log-k-left}
@@ -39,7 +38,7 @@ pub record LogSoFar (s : List ℕ) (mode : Mode) (old lits : List ℤ) (x : Read
   pub kept : Kept old lits (x .count)
   pub so-far : def.log s mode (length old) ≡ def.logFrom s mode (length old) (logStateOf x (take (x .count) lits))
 
-pub log-so-far-start : (s : List ℕ) (mode : Mode) (old : List ℤ) → LogSoFar s mode old old (record { place = 0; solution = Unsaid; assignment = Unbegun; count = 0 })
+pub log-so-far-start : (s : List ℕ) (mode : Mode) (old : List ℤ) → LogSoFar s mode old old (record { place = 0; verdict = None; assignment = Unbegun; count = 0 })
 unfolding def.log
 log-so-far-start s mode old = record { kept = kept-unchanged (omega arith); so-far = refl }
 

@@ -5,7 +5,7 @@ use mathlib.Core.List.{List}
 use Rattle.dimacs.specs.Bytes.{bytes}
 use Rattle.dimacs.specs.Tokens.{fixed}
 use Rattle.dimacs.specs.Logs as def
-use Rattle.dimacs.specs.declared.Solution.{Solution}
+use Rattle.dimacs.specs.declared.Verdict.{Verdict}
 use Rattle.dimacs.specs.declared.Assignment.{Assignment}
 
 -- Past `v ` while no 0 has closed the assignment, else the place itself.
@@ -13,5 +13,5 @@ abbrev pub valueStart : List ℕ → Assignment → ℕ → ℕ
 valueStart s a at = cond (def.isClosed a) at (fixed s (bytes "v ") at)
 
 -- Past `s ` if no solution line came, else the place itself.
-abbrev pub solutionStart : List ℕ → Solution → ℕ → ℕ
-solutionStart s solution at = cond (def.isSaid solution) at (fixed s (bytes "s ") at)
+abbrev pub solutionStart : List ℕ → Verdict → ℕ → ℕ
+solutionStart s verdict at = cond (def.isSaid verdict) at (fixed s (bytes "s ") at)

@@ -13,7 +13,7 @@ use dimacs::FORMAT_OR_MODE_UNKNOWN;
 use dimacs::Kind;
 use dimacs::LOG_FORMAT;
 use dimacs::Mode;
-use dimacs::Solution;
+use dimacs::Verdict;
 use dimacs::kind_of;
 use dimacs::refuse_call;
 use log_line::Line;
@@ -36,12 +36,14 @@ fn is_closed(assignment: Assignment) -> bool
 }
 
 // Whether the solution line has come.
-fn is_said(solution: Solution) -> bool
-    ensures { λ r. ⌜ r ≡ isSaid solution ⌝ }
+fn is_said(verdict: Verdict) -> bool
+    ensures { λ r. ⌜ r ≡ isSaid verdict ⌝ }
 {
-    match solution {
-        Solution::Unsaid => false,
-        Solution::Said(_) => true,
+    match verdict {
+        Verdict::Yes => true,
+        Verdict::No => true,
+        Verdict::Unknown => true,
+        Verdict::None => false,
     }
 }
 
@@ -56,10 +58,10 @@ fn value_start(text: &[u8], at: usize, assignment: Assignment) -> usize
 }
 
 // Past `s `, if no solution line came.
-fn solution_start(text: &[u8], at: usize, solution: Solution) -> usize
-    ensures { λ r. ⌜ r ≡ solutionStart (now (text .entry)) solution at ⌝ }
+fn solution_start(text: &[u8], at: usize, verdict: Verdict) -> usize
+    ensures { λ r. ⌜ r ≡ solutionStart (now (text .entry)) verdict at ⌝ }
 {
-    if is_said(solution) {
+    if is_said(verdict) {
         return at;
     }
     token::fixed(text, at, b"s ")
@@ -71,13 +73,13 @@ fn any_line(text: &[u8], mode: Mode, reading: Reading, lits: &mut [i32]) -> Line
     ensures { λ r. ⌜ ReadsLine (logLine (now (text .entry)) mode (length (now (lits .entry))) (logStateOf reading (take (reading .count) (now (lits .entry))))) (now (lits .entry)) (now (lits .exit)) r ⌝ }
 {
     let at = reading.place;
-    let solution = reading.solution;
+    let verdict = reading.verdict;
     let assignment = reading.assignment;
     let past = token::interactive_strict_comment(text, at);
     if past != at {
         return Line::Again(Reading {
             place: past,
-            solution,
+            verdict,
             assignment,
             count: reading.count,
         });
@@ -86,7 +88,7 @@ fn any_line(text: &[u8], mode: Mode, reading: Reading, lits: &mut [i32]) -> Line
     if values != at {
         return value_line(text, values, reading, lits);
     }
-    let word = solution_start(text, at, solution);
+    let word = solution_start(text, at, verdict);
     if word != at {
         return solution_line(text, word, reading);
     }
@@ -102,7 +104,7 @@ pub fn parse_log_as(text: &[u8], mode: Mode, lits: &mut [i32]) -> Log
 {
     let mut reading = Reading {
         place: 0,
-        solution: Solution::Unsaid,
+        verdict: Verdict::None,
         assignment: Assignment::Unbegun,
         count: 0,
     };

@@ -1,4 +1,4 @@
--- `sat_solver_log::is_said` meets its contract, by the solution. Assumes nothing.
+-- `sat_solver_log::is_said` meets its contract, by the verdict. Assumes nothing.
 use borrow.Author.Needs.{needs}
 use Rattle.sat_solver_log.proofs.is_said.Statement.{statement}
 use Rattle.sat_solver_log.proofs.is_said.Tie as tie
@@ -9,11 +9,23 @@ enum-told c = search needs
 enum-told-2 : tie.Need-enum-told-2
 enum-told-2 c = search needs
 
+enum-told-3 : tie.Need-enum-told-3
+enum-told-3 c = search needs
+
+enum-told-4 : tie.Need-enum-told-4
+enum-told-4 c = search needs
+
 returns : tie.Need-returns
 returns c = search needs
 
 returns-2 : tie.Need-returns-2
 returns-2 c = search needs
 
+returns-3 : tie.Need-returns-3
+returns-3 c = search needs
+
+returns-4 : tie.Need-returns-4
+returns-4 c = search needs
+
 pub is-said-spec : {M : Type 1} → statement M
-is-said-spec = tie.close (tie.spec enum-told enum-told-2 returns returns-2)
+is-said-spec = tie.close (tie.spec enum-told enum-told-2 enum-told-3 enum-told-4 returns returns-2 returns-3 returns-4)
