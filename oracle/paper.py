@@ -6,7 +6,8 @@ Usage: paper.py DIRECTORY
 The frames go to DIRECTORY/stdin and the answers, as a transcript, to DIRECTORY/stdout; those of the 2022 form to DIRECTORY/2022/stdin and stdout.
 
 Document 01's are the texts marked P, the others of "Texts on both sides", the listing's text, and the slips. A text is there in the format and mode that document 01 names for
-it. For a slip it names none: its text is there in every format and both modes, and so is the same slip in the form of a weighted text, a grouped text and a log.
+it. For a slip it names none: its text is there in every format and both modes, and so is the same slip in the form of a weighted text, a grouped text and a log. The verdict
+of a log without a solution line is that of document 02.
 """
 
 import os
@@ -24,6 +25,7 @@ ROOM = 1024
 
 NONE = "header none"
 UNKNOWN = "verdict unknown", "literals"
+UNANSWERED = "verdict none", "literals"
 
 # Each case: format, mode, room, text, and the lines that must follow its `case N`. The second list has those of the 2022 form, which the crate has not.
 CASES = []
@@ -55,7 +57,7 @@ def slip(text, plain, weighted, grouped):
     for format, lines in (PLAIN, plain), (WEIGHTED, weighted), (GROUPED, grouped):
         both(text, *lines, format=format)
     case(text, refused(18, 0, 0, text.split()[0]), format=LOG)
-    case(text, *UNKNOWN, format=LOG, mode=LENIENT)
+    case(text, *UNANSWERED, format=LOG, mode=LENIENT)
 
 
 # "Texts on both sides", marked P.

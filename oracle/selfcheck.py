@@ -2,7 +2,8 @@
 """Holds the oracle's answers against those written out by hand.
 
 The texts are those of document 01 (paper.py), those of READINGS.md, those of docs/DIFFERENCES.md under
-"What strict takes", and some about frames, rooms and words. Prints `N checks, M wrong`.
+"What strict takes", and some about frames, rooms and words. Of the oracle's logs verdicts.py tells which say
+nothing. Prints `N checks, M wrong`.
 
 Usage: selfcheck.py [PROGRAM [WRITER]]   (by default the oracle as cargo builds it beside this file;
                                           PROGRAM takes texts, and WRITER calls of the writers)
@@ -16,7 +17,8 @@ import sys
 sys.path.append(str(pathlib.Path(__file__).resolve().parent.parent / "tools"))
 import frames
 import paper
-from paper import GROUPED, LENIENT, LOG, NONE, PLAIN, STRICT, UNKNOWN, WEIGHTED, refused
+from paper import GROUPED, LENIENT, LOG, NONE, PLAIN, STRICT, UNANSWERED, UNKNOWN, WEIGHTED, refused
+from verdicts import apart
 
 CASES = list(paper.CASES)
 
@@ -37,7 +39,7 @@ case(b"v  ", refused(19, 3), format=LOG)
 case(b"s  UNKNOWN", refused(17, 2, 0, b" UNKNOWN"), format=LOG)
 case(b"v x", refused(5, 2, 0, b"x"), format=LOG)
 case(b"v 1\nv 2 0", refused(16, 6, 1, b"2"), format=LOG, room=1)
-case(b"v 1\nv 2 0", "verdict unknown", "literals 1 2", format=LOG, room=2)
+case(b"v 1\nv 2 0", "verdict none", "literals 1 2", format=LOG, room=2)
 case(b"v 1 0\nx", refused(18, 6, 1, b"x"), format=LOG)
 case(b"p cnf 1 1 1\n", refused(5, 10, 0, b"1"))
 case(b"{1} ", NONE, refused(8, 4), format=GROUPED)
@@ -53,7 +55,7 @@ case(b"p cnf 1 1", "header 1 1", refused(9, 9))
 case(b"p cnf 1 1\nc", "header 1 1", refused(9, 11))
 case(b"s SATISFIABLEx", refused(5, 13, 0, b"x"), format=LOG)
 case(b"c\t", refused(18, 0, 0, b"c"), format=LOG)
-case(b"c\t", "verdict unknown", "literals", format=LOG, mode=LENIENT)
+case(b"c\t", *UNANSWERED, format=LOG, mode=LENIENT)
 case(NINES + b" 0", NONE, refused(15, 0, 0, NINES))
 case(b"p cnf " + NINES + b" 1\n", refused(10, 6, 0, NINES))
 case(b"p cnf 2147483648 1\n", refused(10, 6, 0, b"2147483648"))
@@ -91,7 +93,16 @@ case(b"+1 0", NONE, refused(9, 0, 0, b"+1"))
 case(b"s UNSATISFIABLE\r\nv 0", "verdict no", "literals", format=LOG)
 case(b"s SATISFIABLE\nv 1\nc x\nv -2 0\n", "verdict yes", "literals 1 -2", format=LOG)
 case(b"v 0\nv 1 0\n", refused(18, 4, 0, b"v"), format=LOG)
-case(b"v 0\nv 1 0\n", "verdict unknown", "literals", format=LOG, mode=LENIENT)
+case(b"v 0\nv 1 0\n", *UNANSWERED, format=LOG, mode=LENIENT)
+
+# What a log says, by its solution line or for want of one: the table `verdicts` of crates/dimacs/specs/Cases.antt.
+case(b"s SATISFIABLE\nv 1 0\n", "verdict yes", "literals 1", format=LOG)
+case(b"s UNSATISFIABLE\n", "verdict no", "literals", format=LOG)
+case(b"s UNKNOWN", *UNKNOWN, format=LOG)
+case(b"v 1 0\ns UNKNOWN\n", "verdict unknown", "literals 1", format=LOG)
+case(b"c s UNKNOWN\n", *UNANSWERED, format=LOG)
+case(b"v 1 0\n", "verdict none", "literals 1", format=LOG)
+case(b"UNKNOWN\nS UNKNOWN\n", *UNANSWERED, format=LOG, mode=LENIENT)
 
 # Odd texts that the strict mode takes: docs/DIFFERENCES.md, "What strict takes", row by row.
 case(b"\n", NONE, "end")
@@ -123,14 +134,14 @@ case(b"{9}0", NONE, "clause {9}:", "end", format=GROUPED)
 case(b"p gcnf 0 0 0\n{9}0", "header 0 0 0", "clause {9}:", "end", format=GROUPED)
 case(b"p gcnf 0 0 9", "header 0 0 9", "end", format=GROUPED)
 case(b"p gcnf 0 0 9\n{0}0", "header 0 0 9", "clause {0}:", "end", format=GROUPED)
-case(b"", *UNKNOWN, format=LOG)
-case(b"c ", *UNKNOWN, format=LOG)
+case(b"", *UNANSWERED, format=LOG)
+case(b"c ", *UNANSWERED, format=LOG)
 case(b"s SATISFIABLE", "verdict yes", "literals", format=LOG)
 case(b"s UNSATISFIABLE\nv 1 0", "verdict no", "literals 1", format=LOG)
-case(b"v 1 0", "verdict unknown", "literals 1", format=LOG)
+case(b"v 1 0", "verdict none", "literals 1", format=LOG)
 case(b"v 0\ns UNKNOWN", *UNKNOWN, format=LOG)
-case(b"v \nv 0", *UNKNOWN, format=LOG)
-case(b"v 1 -1 0", "verdict unknown", "literals 1 -1", format=LOG)
+case(b"v \nv 0", *UNANSWERED, format=LOG)
+case(b"v 1 -1 0", "verdict none", "literals 1 -1", format=LOG)
 
 # Near them, and refused.
 case(b"wcnf 1 1 1", NONE, refused(9, 0, 0, b"wcnf"), format=WEIGHTED)
@@ -225,12 +236,13 @@ def main():
             print(f"{what}\n  expected {expected}\n  got      {got}")
 
     given = b"".join(frames.case(*one[:4]) for one in CASES)
-    answers = run([program], given).decode().split("case ")[1:]
+    answers = run([program], given).split(b"case ")[1:]
     check("the number of cases", len(answers), len(CASES))
-    for number, ((*_, lines), answer) in enumerate(zip(CASES, answers)):
-        format, mode, room, text, _ = CASES[number]
+    for number, ((format, mode, room, text, lines), answer) in enumerate(zip(CASES, answers)):
+        if program == oracle:
+            answer = apart(text, answer)
         shown = f"format {format}, mode {mode}, room {room}, text {text[:80]!r}"
-        check(shown, answer.splitlines(), [str(number), *lines])
+        check(shown, answer.decode().splitlines(), [str(number), *lines])
 
     # A frame that standard input cuts off.
     whole = frames.case(PLAIN, STRICT, 4096, b"1 0\n")
