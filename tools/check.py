@@ -2,8 +2,9 @@
 
 usage: tools/check [--list] FORMAT MODE [FILE...]    (FORMAT plain, weighted, grouped, log or weighted2022; MODE strict or lenient)
 
-For each FILE, or for standard input (`-`, or none named), one line says that it is accepted, a log with its verdict, or how it is refused: the number, the
-place, and what is expected there. With --list what was read comes before it: the header and each clause, or the literals of a log. The program `reader_cases` reads the files; it is proved and built first.
+For each FILE, or for standard input (`-`, or none named), one line says that it is accepted, a log with its verdict and what that means for the order, or how it is refused:
+the number, the place, and what is expected there. With --list what was read comes before it: the header and each clause, or the literals of a log. The program `reader_cases`
+reads the files; it is proved and built first.
 
 Exit status: 0 if every file is accepted, 1 if one is refused. It is 2 if the words are wrong, if a file cannot be read or has more than 65,536 bytes, if what is found
 cannot be written, or if `reader_cases` cannot be run; standard error then has a line that says so.
@@ -26,6 +27,14 @@ from solvers import ROOM, answers
 
 FORMATS = ["plain", "weighted", "grouped", "log", "weighted2022"]
 MODES = ["strict", "lenient"]
+
+# What a verdict means for the order.
+ORDER = {
+    "yes": "the order can be built",
+    "no": "the order cannot be built",
+    "unknown": "the solver gave up",
+    "none": "the solver left no answer; look why, and run it again",
+}
 
 
 class Stop(Exception):
@@ -80,7 +89,7 @@ def verdict(lines):
     if last[0] == "refused":
         return f"refused {last[1]} at byte {last[2]}: {words(int(last[1]))}"
     if first[0] == "verdict" and last[0] == "literals":
-        return f"accepted, {lines[0]}"
+        return f"accepted, {lines[0]}: {ORDER[first[1]]}"
     if last == ["end"]:
         return "accepted"
     raise ValueError(lines[-1])

@@ -7,9 +7,12 @@ Each solver that is installed (cadical, picosat, cryptominisat5), as it comes an
 their end, pigeonholes, and random ones from a fixed seed. The formula is read by Latchtwig's plain reader and handed on with one clause to a
 line, since cryptominisat5 takes no other; what the solver prints is read by the log reader. Both are the program `reader_cases`. Each time it is checked that
 
-- the verdict is the one that the solver's exit status tells (10 yes, 20 no);
+- the verdict is the one that the solver's exit status tells (10 yes, 20 no), else unknown if a line `s UNKNOWN` stands, else none;
 - the literals are those of its `v` lines, as Python finds them;
 - where the verdict is yes, every clause has a listed literal.
+
+Each solver is also made to give up on a pigeonhole, and killed over a larger one. Of such a log it is checked, in both modes, that it is unknown if its first line that begins with
+`s ` is `s UNKNOWN`, none if no line begins so, and else refused with 17.
 
 The lenient mode reads the log as it is. Where the strict mode refuses a line, the line is recorded, taken out, and the log read again. At the
 end the refused lines are told, each with the command that prints it. The exit status is 1 if any check fails, and 2 if no solver is installed.
@@ -25,7 +28,9 @@ import frames
 
 ROOT = pathlib.Path(__file__).resolve().parent.parent
 COMMANDS = [["cadical"], ["cadical", "-v"], ["picosat"], ["picosat", "-v"], ["cryptominisat5"], ["cryptominisat5", "--verb", "3"]]
-STATUS = {10: "yes", 20: "no", 0: "unknown"}
+STATUS = {10: "yes", 20: "no"}
+GIVING_UP = [["cadical", "-c", "1"], ["picosat", "-l", "1"], ["cryptominisat5", "--maxconfl", "1"]]
+KILLED = [["cadical"], ["picosat"], ["cryptominisat5"]]
 PLAIN, LOG = 0, 3
 STRICT, LENIENT = 0, 1
 ROOM = 4096
@@ -94,7 +99,8 @@ def problems(run, clauses, lenient, strict):
     """What is wrong with the answers to a solver's run."""
     told = [int(word) for line in run.stdout.splitlines() if line.startswith(b"v ") for word in line.split()[1:]]
     literals = [literal for literal in told if literal != 0]
-    expected = [f"verdict {STATUS.get(run.returncode)}", " ".join(["literals", *map(str, literals)])]
+    undecided = "unknown" if b"s UNKNOWN" in run.stdout.splitlines() else "none"
+    expected = [f"verdict {STATUS.get(run.returncode, undecided)}", " ".join(["literals", *map(str, literals)])]
     if lenient != expected:
         yield "the lenient mode reads another answer"
     if strict != expected:
@@ -103,8 +109,36 @@ def problems(run, clauses, lenient, strict):
         yield "a clause has no listed literal"
 
 
+def installed(commands):
+    return [command for command in commands if shutil.which(command[0])]
+
+
+def killed(command, given):
+    """What a solver has printed when it is killed after a second."""
+    try:
+        return subprocess.run(command, input=given, capture_output=True, timeout=1).stdout
+    except subprocess.TimeoutExpired as late:
+        return late.stdout or b""
+
+
+def undecided():
+    """Tells what each solver's log says if the solver gives up or is killed, and answers how many of them are read otherwise."""
+    logs = [(" ".join(command), subprocess.run(command, input=text(*pigeonhole(6)), capture_output=True).stdout) for command in installed(GIVING_UP)]
+    logs += [(f"{command[0]}, killed", killed(command, text(*pigeonhole(11)))) for command in installed(KILLED)]
+    said = answers(*((LOG, mode, log) for _, log in logs for mode in (STRICT, LENIENT)))
+    wrong = 0
+    for (name, log), *both in zip(logs, said[::2], said[1::2]):
+        solution = next((line for line in log.splitlines() if line.startswith(b"s ")), None)
+        expected = {None: "verdict none", b"s UNKNOWN": "verdict unknown"}.get(solution, "refused 17")
+        if not all(answer[0].startswith(expected) for answer in both):
+            wrong += 1
+            expected += ", AND IS READ OTHERWISE"
+        print(f"  {name}: {expected}")
+    return wrong
+
+
 def main():
-    commands = [command for command in COMMANDS if shutil.which(command[0])]
+    commands = installed(COMMANDS)
     if not commands:
         print("no solver found:", ", ".join(dict.fromkeys(command[0] for command in COMMANDS)))
         sys.exit(2)
@@ -138,6 +172,8 @@ def main():
     print(f"{len(refused)} lines that the strict mode refuses:")
     for (command, why, line), names in sorted(refused.items()):
         print(f"  {command}: refusal {why}, {line!r}, on {len(set(names))} formulas")
+    print("Solvers that gave up, or were killed:")
+    wrong += undecided()
     sys.exit(1 if wrong else 0)
 
 
