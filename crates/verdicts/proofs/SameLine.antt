@@ -40,7 +40,7 @@ pub same-next : {s : List ℕ} {at e : ℕ} → SameLine s at e → nextLine s e
 unfolding nextLine
 same-next p = rw (p .next)
 
--- A run of bytes that pass a test is passed by one of a weaker test.
+-- From the place past a run, a run of a weaker test ends where it ends from the start.
 past-through : (p q : ℕ → Bool) → ((b : ℕ) → p b ≡ true → q b ≡ true) → (s : List ℕ) (m at : ℕ) → length s - at < m → past q s (past p s at) ≡ past q s at
 past-through p q h s zero at k = absurd (omega arith)
 past-through p q h s (suc m) at k =
