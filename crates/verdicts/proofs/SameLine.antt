@@ -32,8 +32,8 @@ use Rattle.verdicts.specs.Lines.{LineAt}
 pub record SameLine (s : List ℕ) (at e : ℕ) : Type 0 where
   pub next : past isNotLF s e ≡ past isNotLF s at
 
-pub then-same : {s : List ℕ} {at e f : ℕ} → SameLine s at e → SameLine s e f → SameLine s at f
-then-same p q = record { next = q .next ∙ p .next }
+pub then-on-line : {s : List ℕ} {at e f : ℕ} → SameLine s at e → SameLine s e f → SameLine s at f
+then-on-line p q = record { next = q .next ∙ p .next }
 
 -- The next line is the same too.
 pub same-next : {s : List ℕ} {at e : ℕ} → SameLine s at e → nextLine s e ≡ nextLine s at
@@ -65,72 +65,72 @@ not-LF : (p : ℕ → Bool) → p 10 ≡ false → (b : ℕ) → p b ≡ true �
 not-LF p h b k = is-not-LF b (λ e. unlike (sym k ∙ ap p e ∙ h))
 
 module _ (s : List ℕ) where
-  past-same : (p : ℕ → Bool) → p 10 ≡ false → (at : ℕ) → SameLine s at (past p s at)
-  past-same p h at = record { next = past-through p isNotLF (not-LF p h) s (suc (length s - at)) at (omega arith) }
+  past-on-line : (p : ℕ → Bool) → p 10 ≡ false → (at : ℕ) → SameLine s at (past p s at)
+  past-on-line p h at = record { next = past-through p isNotLF (not-LF p h) s (suc (length s - at)) at (omega arith) }
 
-  pub blanks-same : (at : ℕ) → SameLine s at (blanks s at)
-  blanks-same at = past-same isBlank refl at
+  pub blanks-on-line : (at : ℕ) → SameLine s at (blanks s at)
+  blanks-on-line at = past-on-line isBlank refl at
 
-  pub fixed-same : (w : List ℕ) → Passes isNotLF w → (at : ℕ) → SameLine s at (fixed s w at)
+  pub fixed-on-line : (w : List ℕ) → Passes isNotLF w → (at : ℕ) → SameLine s at (fixed s w at)
   unfolding fixed
-  fixed-same w o at = chosen (SameLine s at) (begins w (drop at s)) (λ e. record { next = begins-run isNotLF w s at o e }) (λ _. record { next = refl })
+  fixed-on-line w o at = chosen (SameLine s at) (begins w (drop at s)) (λ e. record { next = begins-run isNotLF w s at o e }) (λ _. record { next = refl })
 
-  minus-same : (at : ℕ) → SameLine s at (minus s at)
+  minus-on-line : (at : ℕ) → SameLine s at (minus s at)
   unfolding minus
-  minus-same at =
+  minus-on-line at =
       chosen (SameLine s at) (eqb (byteAt s at) (code "-"))
       (λ e. record { next = past-more isNotLF s at (standing s at 44 e) (rw (eqb-true (byteAt s at) 45 e)) })
       (λ _. record { next = refl })
 
   -- A number that stands ends on its line.
-  abbrev NumberSame : ℕ → Number → Type 0
-  NumberSame at none = Unit {0}
-  NumberSame at (found n e) = SameLine s at e
+  abbrev NumberOnLine : ℕ → Number → Type 0
+  NumberOnLine at none = Unit {0}
+  NumberOnLine at (found n e) = SameLine s at e
 
-  abbrev IntSame : ℕ → Int → Type 0
-  IntSame at int.Missing = Unit {0}
-  IntSame at (int.Zero e) = SameLine s at e
-  IntSame at (int.Literal v e) = SameLine s at e
-  IntSame at int.TooBig = Unit {0}
+  abbrev IntOnLine : ℕ → Int → Type 0
+  IntOnLine at int.Missing = Unit {0}
+  IntOnLine at (int.Zero e) = SameLine s at e
+  IntOnLine at (int.Literal v e) = SameLine s at e
+  IntOnLine at int.TooBig = Unit {0}
 
-  unsigned-same : (at : ℕ) → NumberSame at (unsigned s at)
+  unsigned-on-line : (at : ℕ) → NumberOnLine at (unsigned s at)
   unfolding unsigned
-  unsigned-same at =
+  unsigned-on-line at =
       let e = past isDigit s at in
-      chosen (NumberSame at) (unmoved at e) (λ _. tt)
-      (λ _. chosen (NumberSame at) (wordEnds s e) (λ _. then-same (past-same isDigit refl at) (blanks-same e)) (λ _. tt))
+      chosen (NumberOnLine at) (unmoved at e) (λ _. tt)
+      (λ _. chosen (NumberOnLine at) (wordEnds s e) (λ _. then-on-line (past-on-line isDigit refl at) (blanks-on-line e)) (λ _. tt))
 
-  int-same : (limit at : ℕ) → IntSame at (intAt s limit at)
+  int-on-line : (limit at : ℕ) → IntOnLine at (intAt s limit at)
   unfolding intAt
-  int-same limit at = go (unsigned s (minus s at)) (unsigned-same (minus s at))
+  int-on-line limit at = go (unsigned s (minus s at)) (unsigned-on-line (minus s at))
     where
-      go : (n : Number) → NumberSame (minus s at) n → IntSame at (upToEitherWay limit (unmoved at (minus s at)) n)
+      go : (n : Number) → NumberOnLine (minus s at) n → IntOnLine at (upToEitherWay limit (unmoved at (minus s at)) n)
       go none h = tt
       go (found n e) h =
-          let k = then-same (minus-same at) h in
-          chosen (IntSame at) (eqb n 0) (λ _. k) (λ _. chosen (IntSame at) (leb n (min limit ceiling)) (λ _. k) (λ _. tt))
+          let k = then-on-line (minus-on-line at) h in
+          chosen (IntOnLine at) (eqb n 0) (λ _. k) (λ _. chosen (IntOnLine at) (leb n (min limit ceiling)) (λ _. k) (λ _. tt))
 
   -- A row ends on its line.
-  abbrev pub RowSame : ℕ → Row → Type 0
-  RowSame at (ends e so) = SameLine s at e
-  RowSame at (closes e so) = SameLine s at e
-  RowSame at (stops r so) = Unit {0}
+  abbrev pub RowOnLine : ℕ → Row → Type 0
+  RowOnLine at (ends e so) = SameLine s at e
+  RowOnLine at (closes e so) = SameLine s at e
+  RowOnLine at (stops r so) = Unit {0}
 
-  row-on : (limit room at : ℕ) (r : Reading) → SameLine s at (r .at) → Leads (λ x. SameLine s at (x .at)) (RowSame at) (nextInt s limit room r)
+  row-on : (limit room at : ℕ) (r : Reading) → SameLine s at (r .at) → Leads (λ x. SameLine s at (x .at)) (RowOnLine at) (nextInt s limit room r)
   unfolding nextInt
-  row-on limit room at r h = go (intAt s limit (r .at)) (int-same limit (r .at))
+  row-on limit room at r h = go (intAt s limit (r .at)) (int-on-line limit (r .at))
     where
       On : Step Reading Row → Type 0
-      On = Leads (λ x. SameLine s at (x .at)) (RowSame at)
+      On = Leads (λ x. SameLine s at (x .at)) (RowOnLine at)
 
-      go : (i : Int) → IntSame (r .at) i → On (onInt s limit room i (r .at) (r .so))
+      go : (i : Int) → IntOnLine (r .at) i → On (onInt s limit room i (r .at) (r .so))
       go int.Missing m = h
-      go (int.Zero n) m = then-same h m
-      go (int.Literal v n) m = chosen On (leb room (length (r .so))) (λ _. tt) (λ _. then-same h m)
+      go (int.Zero n) m = then-on-line h m
+      go (int.Literal v n) m = chosen On (leb room (length (r .so))) (λ _. tt) (λ _. then-on-line h m)
       go int.TooBig m = tt
 
-  pub row-same : (limit room : ℕ) (r : Reading) → RowSame (r .at) (row s limit room r)
-  row-same limit room r = row-kept s limit room (λ x. SameLine s (r .at) (x .at)) (RowSame (r .at)) (row-on limit room (r .at)) r (record { next = refl })
+  pub row-on-line : (limit room : ℕ) (r : Reading) → RowOnLine (r .at) (row s limit room r)
+  row-on-line limit room r = row-kept s limit room (λ x. SameLine s (r .at) (x .at)) (RowOnLine (r .at)) (row-on limit room (r .at)) r (record { next = refl })
 
   -- What closes a line leads to the next.
   abbrev pub EndNext : ℕ → EndOfLine → Type 0

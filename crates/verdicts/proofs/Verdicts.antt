@@ -30,8 +30,8 @@ use Rattle.dimacs.proofs.Words.{fixed-is}
 use Rattle.dimacs.proofs.WordEnds.{Passes, begins-run}
 use Rattle.dimacs.proofs.Logs.{log-kept}
 use Rattle.verdicts.specs.Lines.{LineAt, NoneBefore, FirstIs, LinesSay}
-use Rattle.verdicts.proofs.Words.{other-word, words-differ, begins-first, begins-both, stands, stands-not, stands-within}
-use Rattle.verdicts.proofs.SameLine.{SameLine, then-same, same-next, blanks-same, fixed-same, RowSame, row-same, EndNext, end-next, next-opens, none-between}
+use Rattle.verdicts.proofs.Words.{other-word, words-differ, begins-first, begins-both, fixed-stands, fixed-stands-not, stands-within}
+use Rattle.verdicts.proofs.SameLine.{SameLine, then-on-line, same-next, blanks-on-line, fixed-on-line, RowOnLine, row-on-line, EndNext, end-next, next-opens, none-between}
 
 -- What the lines before a place say.
 abbrev SayBefore : List ℕ → ℕ → Verdict → Type 0
@@ -82,14 +82,14 @@ module _ (s : List ℕ) where
   unfolding valueLine
   value-line-said room at e l p t =
       let r = reads (blanks s e) (l .so) in
-      go (row s ceiling room r) (row-same s ceiling room r)
+      go (row s ceiling room r) (row-on-line s ceiling room r)
     where
       k : SameLine s at (blanks s e)
-      k = then-same p (blanks-same s e)
+      k = then-on-line p (blanks-on-line s e)
 
-      go : (w : Row) → RowSame s (blanks s e) w → LineSaid s (valuesRead s (l .verdict) w)
-      go (ends n so) h = line-read-said at n (l .verdict) Begun so (then-same k h) t
-      go (closes n so) h = line-read-said at n (l .verdict) Closed so (then-same k h) t
+      go : (w : Row) → RowOnLine s (blanks s e) w → LineSaid s (valuesRead s (l .verdict) w)
+      go (ends n so) h = line-read-said at n (l .verdict) Begun so (then-on-line k h) t
+      go (closes n so) h = line-read-said at n (l .verdict) Closed so (then-on-line k h) t
       go (stops r so) h = tt
 
   module _ (at : ℕ) (l : Log) (here : LineAt s at) (none : NoneBefore s at) (s-is : begins (bytes "s ") (drop at s) ≡ true) where
@@ -103,7 +103,7 @@ module _ (s : List ℕ) where
         → LineSaid s (solutionIs s v w (at + 2) l otherwise)
     solution-is-said v w o say otherwise h =
         let e = fixed s w (at + 2) in
-        chosen (LineSaid s) (unmoved (at + 2) e) (λ _. h) (λ y. go (stands s w (at + 2) y) (endOfLine s e) refl (end-next s e))
+        chosen (LineSaid s) (unmoved (at + 2) e) (λ _. h) (λ y. go (fixed-stands s w (at + 2) y) (endOfLine s e) refl (end-next s e))
       where
         p : SameLine s at (at + 2)
         p = record { next = begins-run isNotLF (bytes "s ") s at (refl, (refl, tt)) s-is }
@@ -113,7 +113,7 @@ module _ (s : List ℕ) where
         go b end.Missing q c = tt
         go b (end.Past n) q c =
             let f = fixed-is w s (at + 2) b in
-            next-reached at (fixed s w (at + 2)) n v (l .assignment) (l .so) (then-same p (fixed-same s w o (at + 2))) c
+            next-reached at (fixed s w (at + 2)) n v (l .assignment) (l .so) (then-on-line p (fixed-on-line s w o (at + 2))) c
             (say (first-is w b (λ m. let z : _≡_ {A = ℕ} 0 1 = cc in omega arith)))
 
     solution-line-said : LineSaid s (solutionLine s (at + 2) l)
@@ -155,7 +155,7 @@ module _ (s : List ℕ) (mode : Mode) (room : ℕ) where
   comment-is at y =
       let e = fixed s (bytes "c ") at in
       tested (unmoved at e) (λ z. let k : unmoved at at ≡ false = rw z at y in absurd (eqb-false at at k refl))
-      (λ z. (stands s (bytes "c ") at z, rw z (same-next (fixed-same s (bytes "c ") (refl, (refl, tt)) at))))
+      (λ z. (fixed-stands s (bytes "c ") at z, rw z (same-next (fixed-on-line s (bytes "c ") (refl, (refl, tt)) at))))
 
   -- Each line say what the next is read with.
   line-said : (l : Log) → Reached s l → LineSaid s (logLine s mode room l)
@@ -170,14 +170,14 @@ module _ (s : List ℕ) (mode : Mode) (room : ℕ) where
       (λ _. chosen (LineSaid s) (isSaid (l .verdict) || unmoved at e)
       (λ y. chosen (LineSaid s) (atEnd s at)
       (λ k. log-end-said s at (l .verdict) (l .so) (l .assignment) (say-at-end s at (l .verdict) (leb-true (length s) at k) (h .said)))
-      (λ _. other-line-said s mode l (on (λ n. stands-not s (bytes "s ") at (omega arith) (subst (λ x. isSaid x || unmoved at e ≡ true) n y)))))
+      (λ _. other-line-said s mode l (on (λ n. fixed-stands-not s (bytes "s ") at (omega arith) (subst (λ x. isSaid x || unmoved at e ≡ true) n y)))))
       (λ y.
-      let b = stands s (bytes "s ") at (neither-right (isSaid (l .verdict)) (unmoved at e) y) in
+      let b = fixed-stands s (bytes "s ") at (neither-right (isSaid (l .verdict)) (unmoved at e) y) in
       let n = unsaid (l .verdict) (neither-left (isSaid (l .verdict)) (unmoved at e) y) in
       rw (fixed-is (bytes "s ") s at b) (solution-line-said s at l (here b) (subst (SayBefore s at) n (h .said)) b)))
       (λ y.
-      let b = stands s (bytes "v ") at (neither-right (isClosed (l .assignment)) (unmoved at v) y) in
-      value-line-said s room at v l (fixed-same s (bytes "v ") (refl, (refl, tt)) at) (on (λ _. other-word 118 115 _ _ (drop at s) (λ z. omega arith) b))))
+      let b = fixed-stands s (bytes "v ") at (neither-right (isClosed (l .assignment)) (unmoved at v) y) in
+      value-line-said s room at v l (fixed-on-line s (bytes "v ") (refl, (refl, tt)) at) (on (λ _. other-word 118 115 _ _ (drop at s) (λ z. omega arith) b))))
       (λ y.
       let i = comment-is at y in
       rw (i .1) (record { place = next-opens s at; said = on (λ _. other-word 99 115 _ _ (drop at s) (λ z. omega arith) (i .0)) }))

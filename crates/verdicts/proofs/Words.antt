@@ -48,12 +48,12 @@ begins-both (b ∷ u) w s at h k =
     (begins-both u w s (at + 1) (both-right (eqb b (getD s at 0)) (begins u (drop (at + 1) s)) q) (rw i at k)))
 
 -- A word that was found stands.
-pub stands : (s w : List ℕ) (at : ℕ) → unmoved at (fixed s w at) ≡ false → begins w (drop at s) ≡ true
-stands s w at h = tested (begins w (drop at s)) (λ e. e) (λ e. absurd (eqb-false (fixed s w at) at h (fixed-no w s at e)))
+pub fixed-stands : (s w : List ℕ) (at : ℕ) → unmoved at (fixed s w at) ≡ false → begins w (drop at s) ≡ true
+fixed-stands s w at h = tested (begins w (drop at s)) (λ e. e) (λ e. absurd (eqb-false (fixed s w at) at h (fixed-no w s at e)))
 
 -- One that was not does not.
-pub stands-not : (s w : List ℕ) (at : ℕ) → 0 < length w → unmoved at (fixed s w at) ≡ true → begins w (drop at s) ≡ false
-stands-not s w at l h = tested (begins w (drop at s)) (λ e. absurd (omega (arith, fixed-is w s at e, eqb-true (fixed s w at) at h))) (λ e. e)
+pub fixed-stands-not : (s w : List ℕ) (at : ℕ) → 0 < length w → unmoved at (fixed s w at) ≡ true → begins w (drop at s) ≡ false
+fixed-stands-not s w at l h = tested (begins w (drop at s)) (λ e. absurd (omega (arith, fixed-is w s at e, eqb-true (fixed s w at) at h))) (λ e. e)
 
 -- Where a word stands the text has not ended.
 pub stands-within : (s w : List ℕ) (at : ℕ) → 0 < length w → begins w (drop at s) ≡ true → at < length s
