@@ -157,7 +157,7 @@ module _ (s : List ℕ) (mode : Mode) (room : ℕ) where
       tested (unmoved at e) (λ z. let k : unmoved at at ≡ false = rw z at y in absurd (eqb-false at at k refl))
       (λ z. (fixed-stands s (bytes "c ") at z, rw z (same-next (fixed-on-line s (bytes "c ") (refl, (refl, tt)) at))))
 
-  -- Each line say what the next is read with.
+  -- What is so of a line is so of the next.
   line-said : (l : Log) → Reached s l → LineSaid s (logLine s mode room l)
   unfolding logLine
   line-said l h =
