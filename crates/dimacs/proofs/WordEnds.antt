@@ -6,8 +6,8 @@ use mathlib.Core.List.{List, [], _∷_}
 use mathlib.Core.Path.{_≡_, refl, ap, sym, _∙_}
 use native.Mathlib.Numerals.{add-one}
 use native.Mathlib.Omega.{arith}
-use borrow.Author.Tests.{ne-eqb, eqb-true, eqb-false, leb-true, leb-false, ltb-true, ltb-false}
-use lib.Dec.{leb, eqb, ltb}
+use borrow.Author.Tests.{ne-eqb, eqb-true, eqb-false, leb-true, leb-false}
+use lib.Dec.{leb, eqb}
 use lib.ListN.{length, getD, drop}
 use lib.Seq.{drop-cons}
 use Rattle.dimacs.specs.Bytes.{LF, CR, isBlank, isDigit, isNotStop}
@@ -78,16 +78,25 @@ begins-run p (b ∷ w) s at o h =
     (begins-run p w s (at + 1) (o .1) (both-right (eqb b (getD s at 0)) (begins w (drop (at + 1) s)) q)
     ∙ past-more p s at l (ap p (sym z) ∙ o .0)))
 
--- A run is no longer than one of a weaker test.
-pub past-within : (p q : ℕ → Bool) → ((b : ℕ) → p b ≡ true → q b ≡ true) → (s : List ℕ) (m at : ℕ) → length s - at < m → past p s at ≤ past q s at
-past-within p q h s zero at k = absurd (omega arith)
-past-within p q h s (suc m) at k =
-    tested (leb (length s) at)
-    (λ e. omega (arith, past-spans s at p, past-spans s at q, leb-true (length s) at e))
+-- From the place past a run, a run of a weaker test ends where it ends from the start.
+pub past-through : (p q : ℕ → Bool) → ((b : ℕ) → p b ≡ true → q b ≡ true) → (s : List ℕ) (m at : ℕ) → length s - at < m → past q s (past p s at) ≡ past q s at
+past-through p q h s zero at k = absurd (omega arith)
+past-through p q h s (suc m) at k =
+    tested (leb (length s) at) (λ e. rw (past-end p s at (leb-true (length s) at e)))
     (λ e. let l = leb-false (length s) at e in
     tested (p (getD s at 0))
-    (λ y. omega (arith, past-more p s at l y, past-more q s at l (h (getD s at 0) y), past-within p q h s m (at + 1) (omega arith)))
-    (λ y. omega (arith, past-stop p s at l y, past-spans s at q)))
+    (λ y. rw (sym (past-more p s at l y)) (past-through p q h s m (at + 1) (omega arith) ∙ past-more q s at l (h (getD s at 0) y)))
+    (λ y. rw (past-stop p s at l y)))
+
+-- Each byte of a run passes its test.
+pub past-passes : (p : ℕ → Bool) (s : List ℕ) (m at i : ℕ) → length s - at < m → at ≤ i → i < past p s at → p (getD s i 0) ≡ true
+past-passes p s zero at i h k l = absurd (omega arith)
+past-passes p s (suc m) at i h k l =
+    let o : at < length s = omega (arith, past-spans s at p) in
+    tested (p (getD s at 0))
+    (λ e. tested (eqb i at) (λ y. rw (eqb-true i at y) e)
+    (λ y. past-passes p s m (at + 1) i (omega arith) (omega (arith, eqb-false i at y)) (omega (arith, past-more p s at o e))))
+    (λ e. absurd (omega (arith, past-stop p s at o e)))
 
 digit-no-stop : (b : ℕ) → isDigit b ≡ true → isNotStop b ≡ true
 digit-no-stop b h = rw (ne-eqb b 9 (no 9 (below-digit 9 (omega arith))), ne-eqb b 32 (no 32 (below-digit 32 (omega arith))), ne-eqb b 13 (no 13 (below-digit 13 (omega arith))), ne-eqb b 10 (no 10 (below-digit 10 (omega arith))))
@@ -97,31 +106,15 @@ digit-no-stop b h = rw (ne-eqb b 9 (no 9 (below-digit 9 (omega arith))), ne-eqb 
 
 -- Digits are no further than the word.
 pub digits-in-word : (s : List ℕ) (at : ℕ) → past isDigit s at ≤ past isNotStop s at
-digits-in-word s at = past-within isDigit isNotStop digit-no-stop s (suc (length s - at)) at (omega arith)
+digits-in-word s at = omega (arith, past-through isDigit isNotStop digit-no-stop s (suc (length s - at)) at (omega arith), past-spans s (past isDigit s at) isNotStop)
 
 -- The byte before a place is no LF.
 abbrev pub NoLFBefore : List ℕ → ℕ → Type 0
 NoLFBefore s at = getD s (at - 1) 0 ≡ 10 → ⊥
 
 module _ (s : List ℕ) where
-  last-by : (p : ℕ → Bool) (m at : ℕ) → length s - at < m → at < past p s at → p (getD s (past p s at - 1) 0) ≡ true
-  last-by p zero at h k = absurd (omega arith)
-  last-by p (suc m) at h k =
-      let l : at < length s = omega (arith, past-spans s at p) in
-      tested (p (getD s at 0))
-      (λ e.
-      let o = past-more p s at l e in
-      tested (ltb (at + 1) (past p s at))
-      (λ y. rw o at (last-by p m (at + 1) (omega arith) (omega (arith, ltb-true (at + 1) (past p s at) y))))
-      (λ y. let z : past p s at - 1 ≡ at = omega (arith, ltb-false (at + 1) (past p s at) y) in rw z e))
-      (λ e. absurd (omega (arith, past-stop p s at l e)))
-
-  -- A run ends with a byte that passes its test.
-  past-last : (p : ℕ → Bool) (at : ℕ) → at < past p s at → p (getD s (past p s at - 1) 0) ≡ true
-  past-last p at = last-by p (suc (length s - at)) at (omega arith)
-
   no-LF : (p : ℕ → Bool) → p 10 ≡ false → (at : ℕ) → at < past p s at → NoLFBefore s (past p s at)
-  no-LF p h at k e = unlike (sym (past-last p at k) ∙ ap p e ∙ h)
+  no-LF p h at k e = unlike (sym (past-passes p s (suc (length s - at)) at (past p s at - 1) (omega arith) (omega arith) (omega arith)) ∙ ap p e ∙ h)
 
   blanks-no-LF : (at : ℕ) → NoLFBefore s at → NoLFBefore s (blanks s at)
   blanks-no-LF at h =

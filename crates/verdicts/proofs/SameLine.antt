@@ -1,5 +1,5 @@
 -- Words, numbers and rows stay on their line: from the place past them the next LF is the same. Assumes nothing.
-use Prim.Native.Nat.{ℕ, zero, suc, _+_, _-_, _≤_, _<_, min}
+use Prim.Native.Nat.{ℕ, suc, _+_, _-_, _≤_, _<_, min}
 use Prim.Native.Char.{code}
 use mathlib.Core.Bool.{Bool, true, false, _&&_}
 use mathlib.Core.List.{List}
@@ -8,7 +8,7 @@ use mathlib.Core.Path.{_≡_, refl, ap, sym, _∙_}
 use native.Mathlib.Omega.{arith}
 use borrow.Author.Tests.{eq-eqb, ne-eqb, eqb-true, eqb-false, leb-true, leb-false, ltb-true, ltb-false}
 use lib.Dec.{leb, eqb, ltb}
-use lib.ListN.{length, getD, drop}
+use lib.ListN.{length, drop}
 use Rattle.dimacs.specs.Loop.{Step}
 use Rattle.dimacs.specs.Bytes.{LF, CR, isBlank, isDigit, isNotLF}
 use Rattle.dimacs.specs.Names.{ceiling}
@@ -21,11 +21,11 @@ use Rattle.dimacs.specs.declared.EndOfLine.the-variants as end
 use Rattle.dimacs.proofs.Tests.{tested, chosen, unlike, both-right}
 use Rattle.dimacs.proofs.Bytes.{is-not-LF, is-LF}
 use Rattle.dimacs.proofs.Loops.{Leads}
-use Rattle.dimacs.proofs.Past.{past-more, past-stop, past-end}
+use Rattle.dimacs.proofs.Past.{past-more}
 use Rattle.dimacs.proofs.Spans.{past-spans, standing}
 use Rattle.dimacs.proofs.Lines.{next-line-LF, next-line-end}
 use Rattle.dimacs.proofs.Rows.{row-kept}
-use Rattle.dimacs.proofs.WordEnds.{Passes, begins-run}
+use Rattle.dimacs.proofs.WordEnds.{Passes, begins-run, past-through, past-passes}
 use Rattle.verdicts.specs.Lines.{LineAt}
 
 -- A place and a later one on the same line.
@@ -39,26 +39,6 @@ then-on-line p q = record { next = q .next ∙ p .next }
 pub same-next : {s : List ℕ} {at e : ℕ} → SameLine s at e → nextLine s e ≡ nextLine s at
 unfolding nextLine
 same-next p = rw (p .next)
-
--- From the place past a run, a run of a weaker test ends where it ends from the start.
-past-through : (p q : ℕ → Bool) → ((b : ℕ) → p b ≡ true → q b ≡ true) → (s : List ℕ) (m at : ℕ) → length s - at < m → past q s (past p s at) ≡ past q s at
-past-through p q h s zero at k = absurd (omega arith)
-past-through p q h s (suc m) at k =
-    tested (leb (length s) at) (λ e. rw (past-end p s at (leb-true (length s) at e)))
-    (λ e. let l = leb-false (length s) at e in
-    tested (p (getD s at 0))
-    (λ y. rw (sym (past-more p s at l y)) (past-through p q h s m (at + 1) (omega arith) ∙ past-more q s at l (h (getD s at 0) y)))
-    (λ y. rw (past-stop p s at l y)))
-
--- Each byte of a run passes its test.
-past-passes : (p : ℕ → Bool) (s : List ℕ) (m at i : ℕ) → length s - at < m → at ≤ i → i < past p s at → p (getD s i 0) ≡ true
-past-passes p s zero at i h k l = absurd (omega arith)
-past-passes p s (suc m) at i h k l =
-    let o : at < length s = omega (arith, past-spans s at p) in
-    tested (p (getD s at 0))
-    (λ e. tested (eqb i at) (λ y. rw (eqb-true i at y) e)
-    (λ y. past-passes p s m (at + 1) i (omega arith) (omega (arith, eqb-false i at y)) (omega (arith, past-more p s at o e))))
-    (λ e. absurd (omega (arith, past-stop p s at o e)))
 
 -- A test that LF does not pass.
 not-LF : (p : ℕ → Bool) → p 10 ≡ false → (b : ℕ) → p b ≡ true → isNotLF b ≡ true

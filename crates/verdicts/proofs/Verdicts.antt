@@ -68,15 +68,15 @@ module _ (s : List ℕ) where
       (λ y. tested (eqb i at) (λ z. rw (eqb-true i at z) (h refl))
       (λ z. absurd (none-between s at i (omega (arith, ltb-false i at y, eqb-false i at z)) k o)))
 
-  next-reached : (at e n : ℕ) (v : Verdict) (a : Assignment) (so : List ℤ) → SameLine s at e → n ≡ nextLine s e → SayBefore s (nextLine s at) v → Reached s (logAt n v a so)
-  next-reached at e n v a so p q t = let z = q ∙ same-next p in rw z (record { place = next-opens s at; said = t })
-
-  line-read-said : (at e : ℕ) (v : Verdict) (a : Assignment) (so : List ℤ) → SameLine s at e → SayBefore s (nextLine s at) v → LineSaid s (lineRead s e v a so)
-  line-read-said at e v a so p t = go (endOfLine s e) (end-next s e)
+  -- A line that is closed leads to the next.
+  line-read-said : (at e : ℕ) (v : Verdict) (a : Assignment) (so : List ℤ) → SameLine s at e → ((endOfLine s e ≡ end.Missing → ⊥) → SayBefore s (nextLine s at) v) → LineSaid s (lineRead s e v a so)
+  line-read-said at e v a so p say = go (endOfLine s e) refl (end-next s e)
     where
-      go : (x : EndOfLine) → EndNext s e x → LineSaid s (lineEnds x (λ next. again (logAt next v a so)) (answer (refusedLog (refusal s Reason.lineEndExpected e) so)))
-      go end.Missing q = tt
-      go (end.Past n) q = next-reached at e n v a so p q t
+      go : (x : EndOfLine) → endOfLine s e ≡ x → EndNext s e x → LineSaid s (lineEnds x (λ next. again (logAt next v a so)) (answer (refusedLog (refusal s Reason.lineEndExpected e) so)))
+      go end.Missing c q = tt
+      go (end.Past n) c q =
+          let z = q ∙ same-next p in
+          rw z (record { place = next-opens s at; said = say (λ m. let f : _≡_ {A = ℕ} 0 1 = cc in omega arith) })
 
   value-line-said : (room at e : ℕ) (l : Log) → SameLine s at e → SayBefore s (nextLine s at) (l .verdict) → LineSaid s (valueLine s room e l)
   unfolding valueLine
@@ -88,8 +88,8 @@ module _ (s : List ℕ) where
       k = then-on-line p (blanks-on-line s e)
 
       go : (w : Row) → RowOnLine s (blanks s e) w → LineSaid s (valuesRead s (l .verdict) w)
-      go (ends n so) h = line-read-said at n (l .verdict) Begun so (then-on-line k h) t
-      go (closes n so) h = line-read-said at n (l .verdict) Closed so (then-on-line k h) t
+      go (ends n so) h = line-read-said at n (l .verdict) Begun so (then-on-line k h) (λ _. t)
+      go (closes n so) h = line-read-said at n (l .verdict) Closed so (then-on-line k h) (λ _. t)
       go (stops r so) h = tt
 
   module _ (at : ℕ) (l : Log) (here : LineAt s at) (none : NoneBefore s at) (s-is : begins (bytes "s ") (drop at s) ≡ true) where
@@ -103,18 +103,13 @@ module _ (s : List ℕ) where
         → LineSaid s (solutionIs s v w (at + 2) l otherwise)
     solution-is-said v w o say otherwise h =
         let e = fixed s w (at + 2) in
-        chosen (LineSaid s) (unmoved (at + 2) e) (λ _. h) (λ y. go (fixed-stands s w (at + 2) y) (endOfLine s e) refl (end-next s e))
+        chosen (LineSaid s) (unmoved (at + 2) e) (λ _. h)
+        (λ y.
+        let b = fixed-stands s w (at + 2) y in
+        line-read-said at e v (l .assignment) (l .so) (then-on-line p (fixed-on-line s w o (at + 2))) (λ c. say (first-is w b (rw (fixed-is w s (at + 2) b) at c))))
       where
         p : SameLine s at (at + 2)
         p = record { next = begins-run isNotLF (bytes "s ") s at (refl, (refl, tt)) s-is }
-
-        go : begins w (drop (at + 2) s) ≡ true → (x : EndOfLine) → endOfLine s (fixed s w (at + 2)) ≡ x → EndNext s (fixed s w (at + 2)) x
-            → LineSaid s (lineEnds x (λ next. again (logAt next v (l .assignment) (l .so))) (answer (refusedLog (refusal s Reason.lineEndExpected (fixed s w (at + 2))) (l .so))))
-        go b end.Missing q c = tt
-        go b (end.Past n) q c =
-            let f = fixed-is w s (at + 2) b in
-            next-reached at (fixed s w (at + 2)) n v (l .assignment) (l .so) (then-on-line p (fixed-on-line s w o (at + 2))) c
-            (say (first-is w b (λ m. let z : _≡_ {A = ℕ} 0 1 = cc in omega arith)))
 
     solution-line-said : LineSaid s (solutionLine s (at + 2) l)
     unfolding solutionLine
