@@ -32,7 +32,7 @@ MODES = ["strict", "lenient"]
 ORDER = {
     "yes": "the order can be built",
     "no": "the order cannot be built",
-    "unknown": "the solver gave up",
+    "unknown": "the solver gave up; whether the order can be built is not known",
     "none": "the solver left no answer; look why, and run it again",
 }
 

@@ -99,8 +99,8 @@ def problems(run, clauses, lenient, strict):
     """What is wrong with the answers to a solver's run."""
     told = [int(word) for line in run.stdout.splitlines() if line.startswith(b"v ") for word in line.split()[1:]]
     literals = [literal for literal in told if literal != 0]
-    undecided = "unknown" if b"s UNKNOWN" in run.stdout.splitlines() else "none"
-    expected = [f"verdict {STATUS.get(run.returncode, undecided)}", " ".join(["literals", *map(str, literals)])]
+    otherwise = "unknown" if b"s UNKNOWN" in run.stdout.splitlines() else "none"
+    expected = [f"verdict {STATUS.get(run.returncode, otherwise)}", " ".join(["literals", *map(str, literals)])]
     if lenient != expected:
         yield "the lenient mode reads another answer"
     if strict != expected:
