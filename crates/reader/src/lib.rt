@@ -3,7 +3,7 @@
 // `open` answers how the text opens, and a reader. Each `next_clause` answers a clause, the end or a refusal, and the reader goes on.
 ghost use mathlib.Core.Path.{_≡_};
 ghost use Rattle.token.specs.Words.{WordAt};
-ghost use Rattle.reader.specs.Readers.{openedOn, Reads, ReadsFirst};
+ghost use Rattle.reader.specs.Readers.{openedOn, Reads};
 use clause::Next;
 use dimacs::Opening;
 use formula::Cursor;
@@ -57,27 +57,5 @@ impl<'a> Reader<'a> {
         ensures { λ r. ⌜ WordAt (self .entry .text) (self .entry .cursor .progress .place) r ⌝ }
     {
         token::stopped_at(self.text, self.cursor.progress.place)
-    }
-}
-
-// How a text opens, its first answer, and the place after it.
-pub struct First {
-    pub opening: Opening,
-    pub answer: Next,
-    pub place: usize,
-}
-
-// How a text opens by the numbers of a format of clauses and a mode, and what the first call then answers: a clause, the end or a refusal. For callers
-// who hold no reader.
-pub fn first_clause(text: &[u8], format: u8, mode: u8, lits: &mut [i32]) -> First
-    ensures { λ r. ⌜ ReadsFirst format mode (now (text .entry)) (now (lits .entry)) (now (lits .exit)) r ⌝ }
-{
-    let opened = open(text, format, mode);
-    let mut reader = opened.reader;
-    let answer = reader.next_clause(lits);
-    First {
-        opening: opened.opening,
-        answer,
-        place: reader.place(),
     }
 }

@@ -108,7 +108,7 @@ fn rest(text: &[u8], cursor: Cursor, lits: &mut [i32], page: &mut [u8]) {
 
 // How a text opens and its first answer are told by a reader that holds it, the rest by a cursor.
 fn formula_lines(text: &[u8], format: u8, mode: u8, lits: &mut [i32], page: &mut [u8]) {
-    let first = reader::first_clause(text, format, mode, lits);
+    let first = first_answer::first_clause(text, format, mode, lits);
     let opening = first.opening;
     let answer = first.answer;
     let opened = formula::open(text, format, mode);

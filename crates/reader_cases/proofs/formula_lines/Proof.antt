@@ -1,6 +1,6 @@
 -- `reader_cases::formula_lines` lends no more of the buffer than it has, since a first clause has no more literals than that. Assumes nothing.
 use mathlib.Core.Path.{refl}
-use Rattle.reader.proofs.Readers.{first-fits}
+use Rattle.first_answer.proofs.Firsts.{first-fits}
 use borrow.Author.Needs.{needs}
 use Rattle.reader_cases.proofs.formula_lines.Statement.{statement}
 use Rattle.reader_cases.proofs.formula_lines.Tie as tie

@@ -1,4 +1,4 @@
--- `reader::first_clause` meets its contract: a reader is made in a local, lent to `next_clause` for a lifetime within that of the text, and asked for its place once it is back. Assumes nothing.
+-- `first_answer::first_clause` meets its contract: a reader is made in a local, lent to `next_clause` for a lifetime within that of the text, and asked for its place once it is back. Assumes nothing.
 use mathlib.Core.Path.{_≡_, refl}
 use Prim.Native.Nat.{ℕ}
 use mathlib.Core.List.{List, [], _∷_}
@@ -11,33 +11,33 @@ use Rattle.dimacs.proofs.Opening as E
 use Rattle.dimacs.proofs.Opening.Laws as E′
 use Rattle.clause.proofs.Next as N
 use Rattle.clause.proofs.Next.Laws as N′
 use Rattle.reader.specs.Readers.{openedOn, Reads}
 use Rattle.reader.specs.declared.Reader.{Reader}
-use Rattle.reader.specs.declared.First.{First}
+use Rattle.first_answer.specs.declared.First.{First}
 use Rattle.reader.proofs.Held.{textVal, openingVal, readerVal, openedVal, Text, Own, text-twice, reader-out}
-use Rattle.reader.proofs.Readers.{first-read}
+use Rattle.first_answer.proofs.Firsts.{first-read}
 use Rattle.reader.proofs.Opened as P
 use Rattle.reader.proofs.Opened.Laws as P′
-use Rattle.reader.proofs.First as O
-use Rattle.reader.proofs.First.Laws as O′
+use Rattle.first_answer.proofs.First as O
+use Rattle.first_answer.proofs.First.Laws as O′
 use Rattle.reader.proofs.Reader as T
 use Rattle.reader.proofs.Reader.Laws as T′
 use Rattle.reader.proofs.«open» as opens
 use Rattle.reader.proofs.«open».Symbol as opens-def
 use Rattle.reader.proofs.«open».Symbol.{name as #open}
 use Rattle.reader.proofs.«open».Met as opens-thm
 use Rattle.reader.proofs.Reader.next_clause as next
 use Rattle.reader.proofs.Reader.next_clause.Symbol as next-def
 use Rattle.reader.proofs.Reader.next_clause.Symbol.{name as #next}
 use Rattle.reader.proofs.Reader.next_clause.Met as next-thm
 use Rattle.reader.proofs.Reader.place as place
 use Rattle.reader.proofs.Reader.place.Symbol as place-def
 use Rattle.reader.proofs.Reader.place.Symbol.{name as #place}
 use Rattle.reader.proofs.Reader.place.Met as place-thm
-use Rattle.reader.proofs.first_clause.Key.{name as #first}
-use Rattle.reader.proofs.first_clause as f
-use Rattle.reader.proofs.first_clause.Statement as stated
-use Rattle.reader.proofs.first_clause.Code as code
+use Rattle.first_answer.proofs.first_clause.Key.{name as #first}
+use Rattle.first_answer.proofs.first_clause as f
+use Rattle.first_answer.proofs.first_clause.Statement as stated
+use Rattle.first_answer.proofs.first_clause.Code as code
 
 abbrev params : Params (f.signature .params) (f.ended .kept)
 params = (shared 2 0 tt u8, (number 2 w8, (number 2 w8, (passedOn 2 1 tt i32, tt))))

@@ -1,0 +1,2 @@
+-- What the promise of a first answer comes to.
+pub mod Firsts

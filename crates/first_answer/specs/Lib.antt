@@ -1,0 +1,2 @@
+-- What the first call on a text answers.
+pub mod Firsts
