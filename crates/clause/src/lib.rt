@@ -1,6 +1,7 @@
 // A clause of each format, read into a lent buffer of literals: how it begins, its literals, and how it ends.
 ghost use mathlib.Core.Path.{_≡_};
 ghost use lib.ListN.{length};
+ghost use Rattle.dimacs.specs.Lined.{lined};
 ghost use Rattle.dimacs.specs.Clauses.{instead, absent, isZero, literalsAfter, startBy, softBy, startIn2022, startAt, closing, clauseAt};
 ghost use Rattle.dimacs.specs.declared.Absence.{Absence};
 ghost use Rattle.rows.specs.Answers.{ByCount};
@@ -8,6 +9,7 @@ ghost use Rattle.clause.specs.Answers.{answeredOf, ReadsLiterals, Answer
 use dimacs::Absence;
 use dimacs::CLAUSE_EXPECTED;
 use dimacs::EndOfLine;
+use dimacs::Ends;
 use dimacs::Format;
 use dimacs::GROUP_TOO_BIG;
 use dimacs::HARD;
@@ -51,27 +53,27 @@ pub struct Answered {
 }
 
 // The literals from a place on, up to the 0.
-fn clause_lits(text: &[u8], at: usize, limit: u32, lits: &mut [i32]) -> Literals
-    ensures { λ r. ⌜ ReadsLiterals (now (text .entry)) limit at (now (lits .entry)) (now (lits .exit)) r ⌝ }
+fn clause_lits(text: &[u8], ends: Ends, at: usize, limit: u32, lits: &mut [i32]) -> Literals
+    ensures { λ r. ⌜ ReadsLiterals (lined ends (now (text .entry))) limit at (now (lits .entry)) (now (lits .exit)) r ⌝ }
 {
     let mut from = at;
     let mut held: usize = 0;
     loop {
-        match rows::ints(text, from, limit, held, lits) {
+        match rows::ints(text, ends, from, limit, held, lits) {
             Row::Ends { place, count } => {
                 if count == 0 {
                     return Literals::Nothing;
                 }
                 if count == held {
                     return Literals::Stopped {
-                        refusal: refuse(text, LITERAL_EXPECTED_AFTER_LINES, place),
+                        refusal: refuse(text, ends, LITERAL_EXPECTED_AFTER_LINES, place),
                         count,
                     };
                 }
-                let past = token::non_terminating_linebreaks(text, place);
+                let past = token::non_terminating_linebreaks(text, ends, place);
                 if past == place {
                     return Literals::Stopped {
-                        refusal: refuse(text, LITERAL_EXPECTED, place),
+                        refusal: refuse(text, ends, LITERAL_EXPECTED, place),
                         count,
                     };
                 }
@@ -105,47 +107,47 @@ fn instead(i: Instead) -> Answered
 }
 
 // Where no number stands: the end of the text if it may come there, else a refusal.
-fn absent(text: &[u8], at: usize, absence: Absence) -> Instead
-    ensures { λ r. ⌜ r ≡ absent (now (text .entry)) absence at ⌝ }
+fn absent(text: &[u8], ends: Ends, at: usize, absence: Absence) -> Instead
+    ensures { λ r. ⌜ r ≡ absent (lined ends (now (text .entry))) absence at ⌝ }
 {
     match absence {
         Absence::MayEnd => {
             if token::eof(text, at) {
                 return Instead::Ended(at);
             }
-            Instead::Refused(refuse(text, CLAUSE_EXPECTED, at))
+            Instead::Refused(refuse(text, ends, CLAUSE_EXPECTED, at))
         }
-        Absence::NoClause => Instead::Refused(refuse(text, CLAUSE_EXPECTED, at)),
-        Absence::NoLiterals => Instead::Refused(refuse(text, LITERALS_EXPECTED, at)),
+        Absence::NoClause => Instead::Refused(refuse(text, ends, CLAUSE_EXPECTED, at)),
+        Absence::NoLiterals => Instead::Refused(refuse(text, ends, LITERALS_EXPECTED, at)),
     }
 }
 
 // The end of the text, or refusal 9, where no clause may come.
-pub fn no_clause(text: &[u8], at: usize) -> Answered
-    ensures { λ r. ⌜ r ≡ answeredOf (instead (absent (now (text .entry)) Absence.MayEnd at)) ⌝ }
+pub fn no_clause(text: &[u8], ends: Ends, at: usize) -> Answered
+    ensures { λ r. ⌜ r ≡ answeredOf (instead (absent (lined ends (now (text .entry))) Absence.MayEnd at)) ⌝ }
 {
-    instead(absent(text, at, Absence::MayEnd))
+    instead(absent(text, ends, at, Absence::MayEnd))
 }
 
 // The literals after a weight, a group or the word `h`.
-fn literals_after(text: &[u8], extra: u64, next: usize) -> Start
-    ensures { λ r. ⌜ r ≡ literalsAfter (now (text .entry)) extra next ⌝ }
+fn literals_after(text: &[u8], ends: Ends, extra: u64, next: usize) -> Start
+    ensures { λ r. ⌜ r ≡ literalsAfter (lined ends (now (text .entry))) extra next ⌝ }
 {
     Start::Literals {
         extra,
-        place: token::non_terminating_linebreaks(text, next),
+        place: token::non_terminating_linebreaks(text, ends, next),
         absence: Absence::NoLiterals,
     }
 }
 
 // How a clause begins by its weight or group, which has a refusal number of its own where it is too big.
-fn start_by(text: &[u8], at: usize, big: u8, absence: Absence, mark: Uint) -> Start
-    ensures { λ r. ⌜ r ≡ startBy (now (text .entry)) big absence at mark ⌝ }
+fn start_by(text: &[u8], ends: Ends, at: usize, big: u8, absence: Absence, mark: Uint) -> Start
+    ensures { λ r. ⌜ r ≡ startBy (lined ends (now (text .entry))) big absence at mark ⌝ }
 {
     match mark {
-        Uint::Missing => Start::Instead(absent(text, at, absence)),
-        Uint::TooBig => Start::Instead(Instead::Refused(refuse(text, big, at))),
-        Uint::Value(extra, next) => literals_after(text, extra, next),
+        Uint::Missing => Start::Instead(absent(text, ends, at, absence)),
+        Uint::TooBig => Start::Instead(Instead::Refused(refuse(text, ends, big, at))),
+        Uint::Value(extra, next) => literals_after(text, ends, extra, next),
     }
 }
 
@@ -160,33 +162,40 @@ fn is_zero(weight: Uint) -> bool
 }
 
 // How a soft clause of the 2022 form begins by its weight.
-fn soft_by(text: &[u8], at: usize, absence: Absence, weight: Uint) -> Start
-    ensures { λ r. ⌜ r ≡ softBy (now (text .entry)) absence at weight ⌝ }
+fn soft_by(text: &[u8], ends: Ends, at: usize, absence: Absence, weight: Uint) -> Start
+    ensures { λ r. ⌜ r ≡ softBy (lined ends (now (text .entry))) absence at weight ⌝ }
 {
     if is_zero(weight) {
-        return Start::Instead(Instead::Refused(refuse(text, WEIGHT_ZERO, at)));
+        return Start::Instead(Instead::Refused(refuse(text, ends, WEIGHT_ZERO, at)));
     }
-    start_by(text, at, WEIGHT_TOO_BIG, absence, weight)
+    start_by(text, ends, at, WEIGHT_TOO_BIG, absence, weight)
 }
 
 // How a clause of the 2022 form begins.
-fn start_in_2022(text: &[u8], at: usize, absence: Absence) -> Start
-    ensures { λ r. ⌜ r ≡ startIn2022 (now (text .entry)) absence at ⌝ }
+fn start_in_2022(text: &[u8], ends: Ends, at: usize, absence: Absence) -> Start
+    ensures { λ r. ⌜ r ≡ startIn2022 (lined ends (now (text .entry))) absence at ⌝ }
 {
     if token::word(text, at, b"p") != at {
-        return Start::Instead(Instead::Refused(refuse(text, HEADER_NOT_EXPECTED, at)));
+        return Start::Instead(Instead::Refused(refuse(text, ends, HEADER_NOT_EXPECTED, at)));
     }
     let past = token::word(text, at, b"h");
     if past != at {
-        return literals_after(text, HARD, past);
+        return literals_after(text, ends, HARD, past);
     }
     let weight = numeral::uint(text, at, LARGEST);
-    soft_by(text, at, absence, weight)
+    soft_by(text, ends, at, absence, weight)
 }
 
 // How a clause begins in its format.
-fn start_at(text: &[u8], at: usize, format: Format, groups: u64, absence: Absence) -> Start
-    ensures { λ r. ⌜ r ≡ startAt (now (text .entry)) format groups absence at ⌝ }
+fn start_at(
+    text: &[u8],
+    ends: Ends,
+    at: usize,
+    format: Format,
+    groups: u64,
+    absence: Absence,
+) -> Start
+    ensures { λ r. ⌜ r ≡ startAt (lined ends (now (text .entry))) format groups absence at ⌝ }
 {
     match format {
         Format::Plain => Start::Literals {
@@ -196,24 +205,24 @@ fn start_at(text: &[u8], at: usize, format: Format, groups: u64, absence: Absenc
         },
         Format::Weighted => {
             let weight = numeral::uint(text, at, LARGEST);
-            start_by(text, at, WEIGHT_TOO_BIG, absence, weight)
+            start_by(text, ends, at, WEIGHT_TOO_BIG, absence, weight)
         }
         Format::Grouped => {
             let group = numeral::braced_uint(text, at, groups);
-            start_by(text, at, GROUP_TOO_BIG, absence, group)
+            start_by(text, ends, at, GROUP_TOO_BIG, absence, group)
         }
-        Format::Weighted2022 => start_in_2022(text, at, absence),
+        Format::Weighted2022 => start_in_2022(text, ends, at, absence),
     }
 }
 
 // What closes the line of a clause after its 0.
-fn closing(text: &[u8], at: usize, extra: u64, count: usize) -> Answered
-    ensures { λ r. ⌜ ByCount count (λ so. answeredOf (closing (now (text .entry)) extra at so)) r ⌝ }
+fn closing(text: &[u8], ends: Ends, at: usize, extra: u64, count: usize) -> Answered
+    ensures { λ r. ⌜ ByCount count (λ so. answeredOf (closing (lined ends (now (text .entry))) extra at so)) r ⌝ }
 {
-    match token::interactive_end_of_line(text, at) {
+    match token::interactive_end_of_line(text, ends, at) {
         EndOfLine::Missing => Answered {
             answer: Next::Refused {
-                refusal: refuse(text, LINE_END_EXPECTED, at),
+                refusal: refuse(text, ends, LINE_END_EXPECTED, at),
                 count,
             },
             place: at,
@@ -228,23 +237,24 @@ fn closing(text: &[u8], at: usize, extra: u64, count: usize) -> Answered
 // A clause at a place where no comment and no line end stands.
 pub fn clause_at(
     text: &[u8],
+    ends: Ends,
     at: usize,
     format: Format,
     limits: Limits,
     absence: Absence,
     lits: &mut [i32],
 ) -> Answered
-    ensures { λ r. ⌜ Answers (clauseAt (now (text .entry)) limits (length (now (lits .entry))) format absence at) (now (lits .entry)) (now (lits .exit)) r ⌝ }
+    ensures { λ r. ⌜ Answers (clauseAt (lined ends (now (text .entry))) limits (length (now (lits .entry))) format absence at) (now (lits .entry)) (now (lits .exit)) r ⌝ }
 {
-    match start_at(text, at, format, limits.groups, absence) {
+    match start_at(text, ends, at, format, limits.groups, absence) {
         Start::Instead(i) => instead(i),
         Start::Literals {
             extra,
             place,
             absence,
-        } => match clause_lits(text, place, limits.literals, lits) {
-            Literals::Nothing => instead(absent(text, place, absence)),
-            Literals::Closed { count, next } => closing(text, next, extra, count),
+        } => match clause_lits(text, ends, place, limits.literals, lits) {
+            Literals::Nothing => instead(absent(text, ends, place, absence)),
+            Literals::Closed { count, next } => closing(text, ends, next, extra, count),
             Literals::Stopped { refusal, count } => Answered {
                 answer: Next::Refused { refusal, count },
                 place: refusal.place,

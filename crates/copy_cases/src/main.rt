@@ -1,4 +1,4 @@
-// Writes formulas, reads each back in both modes, and prints its text and what was read of it.
+// Writes formulas, reads each back in every mode, and prints its text and what was read of it.
 //
 // Where that is not what was written, `differs` is printed.
 ghost use mathlib.Core.Path.{_≡_};
@@ -9,6 +9,7 @@ ghost use Rattle.formula.proofs.Runs.{CountFits};
 ghost use Rattle.pages.specs.Pages.{Lays};
 ghost use Rattle.copy_cases.specs.Titles.{formatName, titleLine};
 use clause::Next;
+use dimacs::Ends;
 use dimacs::Format;
 use dimacs::HARD;
 use dimacs::Header;
@@ -17,6 +18,7 @@ use dimacs::Mode;
 use dimacs::Opening;
 use dimacs::ROOM;
 use dimacs::Refusal;
+use dimacs::Rigor;
 use dimacs::has_hard;
 use formula::Cursor;
 use writer::Written;
@@ -278,21 +280,36 @@ fn title_line(page: &mut [u8], at: usize, format: Format, bytes: usize) -> usize
     lines::word(page, past_number, b" bytes\n")
 }
 
-fn both(page: &mut [u8], text: &[u8], f: Formula, extras: &[u64], given: &[i32]) {
+// The text read strictly and leniently.
+fn both(page: &mut [u8], text: &[u8], f: Formula, ends: Ends, extras: &[u64], given: &[i32]) {
+    let strict = Mode {
+        rigor: Rigor::Strict,
+        ends,
+    };
+    let lenient = Mode {
+        rigor: Rigor::Lenient,
+        ends,
+    };
+    console::print(b"strict\n");
+    read_back(page, text, f, strict, extras, given);
+    console::print(b"lenient\n");
+    read_back(page, text, f, lenient, extras, given);
+}
+
+fn in_modes(page: &mut [u8], text: &[u8], f: Formula, extras: &[u64], given: &[i32]) {
     let format = f.format;
     let past = title_line(page, 0, format, text.len());
     console::print(lines::upto(page, past));
     console::print(text);
-    console::print(b"strict\n");
-    read_back(page, text, f, Mode::Strict, extras, given);
-    console::print(b"lenient\n");
-    read_back(page, text, f, Mode::Lenient, extras, given);
+    both(page, text, f, Ends::LineFeed, extras, given);
+    console::print(b"cr\n");
+    both(page, text, f, Ends::AlsoReturn, extras, given);
 }
 
 fn copied(page: &mut [u8; PAGE], f: Formula, extras: &[u64], given: &[i32]) {
     let mut text = [0u8; TEXT];
     let n = written(&mut text, f, extras, given);
-    both(page, lines::upto(&text, n), f, extras, given);
+    in_modes(page, lines::upto(&text, n), f, extras, given);
 }
 
 fn bare(format: Format) -> Formula {

@@ -13,12 +13,12 @@ use Rattle.dimacs.specs.Bytes.{bytes, isNotStop}
 use Rattle.dimacs.specs.Names.{numbered, ceiling}
 use Rattle.dimacs.specs.Tokens.{begins, unmoved, blanks, lineEnd, nextLine, fixed, strictComment, endOfLine}
 use Rattle.dimacs.specs.Rows.{Row, ends, closes, stops, reads, row}
-use Rattle.dimacs.specs.Logs.{LogAnswer, accepted, refusedLog, Log, isClosed, isSaid, lineRead, valuesRead, valueLine, solutionIs, solutionLine, logEnd, otherLine, logLine, logFrom, log}
+use Rattle.dimacs.specs.Logs.{LogAnswer, accepted, refusedLog, Log, isClosed, isSaid, lineRead, valuesRead, valueLine, solutionIs, solutionLine, logEnd, otherLine, logLine, logFrom}
 use Rattle.dimacs.specs.Seen.{wordSeen, logSeen}
 use Rattle.dimacs.specs.declared.Assignment.{Assignment}
 use Rattle.dimacs.specs.declared.Assignment.the-variants.{Unbegun, Begun, Closed}
-use Rattle.dimacs.specs.declared.Mode.{Mode}
-use Rattle.dimacs.specs.declared.Mode.the-variants.{Strict, Lenient}
+use Rattle.dimacs.specs.declared.Rigor.{Rigor}
+use Rattle.dimacs.specs.declared.Rigor.the-variants.{Strict, Lenient}
 use Rattle.dimacs.specs.declared.Verdict.{Verdict}
 use Rattle.dimacs.proofs.Loops.{Leads, after}
 use Rattle.dimacs.proofs.Tests.{tested}
@@ -124,25 +124,25 @@ module _ {n : ℕ} {s t : List ℕ} (a : Alike n s t) where
   end-unseen at verdict so Begun h k = omega (arith, past-spans s at isNotStop)
   end-unseen at verdict so Closed h k = omega arith
 
-  other-line-same : (mode : Mode) (r : Log) → StepSeen n s (otherLine s mode r) → otherLine t mode r ≡ otherLine s mode r
+  other-line-same : (rigor : Rigor) (r : Log) → StepSeen n s (otherLine s rigor r) → otherLine t rigor r ≡ otherLine s rigor r
   unfolding numbered
   other-line-same Strict r k = refl
   other-line-same Lenient r k = rw (next-line-same a (r .at) (omega arith))
 
-  module _ (mode : Mode) (room : ℕ) where
+  module _ (rigor : Rigor) (room : ℕ) where
     line-reach : (at : ℕ) (x : Step Log LogAnswer) → LineLeads s at x → StepSeen n s x → at + 2 ≤ n
     line-reach at (again l) h k = omega arith
     line-reach at (answer (accepted v so)) h k = omega arith
     line-reach at (answer (refusedLog r so)) h k = omega (arith, past-spans s (r .place) isNotStop)
 
-    log-line-same : (r : Log) → StepSeen n s (logLine s mode room r) → logLine t mode room r ≡ logLine s mode room r
+    log-line-same : (r : Log) → StepSeen n s (logLine s rigor room r) → logLine t rigor room r ≡ logLine s rigor room r
     unfolding logLine
     log-line-same r k =
         let at = r .at in
         let c = strictComment s at in
         let v = fixed s (bytes "v ") at in
         let e = fixed s (bytes "s ") at in
-        let h : at + 2 ≤ n = line-reach at (logLine s mode room r) (log-line-leads s mode room r) k in
+        let h : at + 2 ≤ n = line-reach at (logLine s rigor room r) (log-line-leads s rigor room r) k in
         rw (all-fixed-same a (bytes "v ") at h, all-fixed-same a (bytes "s ") at h)
         (tested (unmoved at c)
         (λ y.
@@ -157,8 +157,8 @@ module _ {n : ℕ} {s t : List ℕ} (a : Alike n s t) where
         let q : logSeen s (logEnd s at (r .verdict) (r .so) (r .assignment)) ≤ n = rw (y, y₁, y₂, y₃) at k in
         absurd (end-unseen at (r .verdict) (r .so) (r .assignment) (leb-true (length s) at y₃) q))
         (λ y₃.
-        let q : StepSeen n s (otherLine s mode r) = rw (y, y₁, y₂, y₃) at k in
-        rw (y₃, lt-leb (length t) at (omega arith)) (other-line-same mode r q))))
+        let q : StepSeen n s (otherLine s rigor r) = rw (y, y₁, y₂, y₃) at k in
+        rw (y₃, lt-leb (length t) at (omega arith)) (other-line-same rigor r q))))
         (λ y₂.
         let q : StepSeen n s (solutionLine s e r) = rw (y, y₁, y₂) at k in
         rw y₂ (solution-line-same e r q))))
@@ -169,24 +169,23 @@ module _ {n : ℕ} {s t : List ℕ} (a : Alike n s t) where
         let q : c + 2 ≤ n = rw y at k in
         rw (strict-comment-same at h (omega arith), y)))
 
-    log-by : (m : ℕ) (r : Log) → length s - r .at < m → logSeen s (logFrom s mode room r) ≤ n
-        → (r .at + 2 ≤ n) × (logFrom t mode room r ≡ logFrom s mode room r)
+    log-by : (m : ℕ) (r : Log) → length s - r .at < m → logSeen s (logFrom s rigor room r) ≤ n
+        → (r .at + 2 ≤ n) × (logFrom t rigor room r ≡ logFrom s rigor room r)
     log-by zero r h k = absurd (omega arith)
     log-by (suc m) r h k =
-        let q = go (logLine s mode room r) refl (log-line-leads s mode room r) (λ x l. log-by m x l) (rw (log-step s mode room r) at k) in
-        (q .0, q .1 ∙ sym (log-step s mode room r))
+        let q = go (logLine s rigor room r) refl (log-line-leads s rigor room r) (λ x l. log-by m x l) (rw (log-step s rigor room r) at k) in
+        (q .0, q .1 ∙ sym (log-step s rigor room r))
       where
-        go : (x : Step Log LogAnswer) → logLine s mode room r ≡ x → LineLeads s (r .at) x
-            → ((y : Log) → length s - y .at < m → logSeen s (logFrom s mode room y) ≤ n → (y .at + 2 ≤ n) × (logFrom t mode room y ≡ logFrom s mode room y))
-            → logSeen s (after x (logFrom s mode room)) ≤ n → (r .at + 2 ≤ n) × (logFrom t mode room r ≡ after x (logFrom s mode room))
+        go : (x : Step Log LogAnswer) → logLine s rigor room r ≡ x → LineLeads s (r .at) x
+            → ((y : Log) → length s - y .at < m → logSeen s (logFrom s rigor room y) ≤ n → (y .at + 2 ≤ n) × (logFrom t rigor room y ≡ logFrom s rigor room y))
+            → logSeen s (after x (logFrom s rigor room)) ≤ n → (r .at + 2 ≤ n) × (logFrom t rigor room r ≡ after x (logFrom s rigor room))
         go (again y) is l next k =
             let d = next y (omega arith) k in
             let e = log-line-same r (subst (StepSeen n s) (sym is) (d .0)) ∙ is in
-            (omega (arith, d .0), log-step t mode room r ∙ ap (λ x. after x (logFrom t mode room)) e ∙ d .1)
+            (omega (arith, d .0), log-step t rigor room r ∙ ap (λ x. after x (logFrom t rigor room)) e ∙ d .1)
         go (answer x) is l next k =
             let e = log-line-same r (subst (StepSeen n s) (sym is) k) ∙ is in
-            (line-reach (r .at) (answer x) l k, log-step t mode room r ∙ ap (λ x. after x (logFrom t mode room)) e)
+            (line-reach (r .at) (answer x) l k, log-step t rigor room r ∙ ap (λ x. after x (logFrom t rigor room)) e)
 
-    pub log-same : logSeen s (log s mode room) ≤ n → log t mode room ≡ log s mode room
-    unfolding log
-    log-same k = log-by (suc (length s)) _ (omega arith) k .1
+    pub log-from-same : (r : Log) → logSeen s (logFrom s rigor room r) ≤ n → logFrom t rigor room r ≡ logFrom s rigor room r
+    log-from-same r k = log-by (suc (length s - r .at)) r (omega arith) k .1

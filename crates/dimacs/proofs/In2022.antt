@@ -1,17 +1,18 @@
--- The 2022 form has no header and no counts, so that both modes read it alike, and its hard clauses are those that begin with `h`. Assumes nothing.
+-- The 2022 form has no header and no counts, so that it is read alike strictly and leniently, and its hard clauses are those that begin with `h`. Assumes nothing.
 use Prim.Native.Nat.{ℕ}
 use mathlib.Core.Bool.{Bool, false, not}
 use mathlib.Core.List.{List}
 use mathlib.Core.Path.{_≡_, refl}
 use lib.Dec.{eqb}
 use Rattle.dimacs.specs.Bytes.{bytes}
-use Rattle.dimacs.specs.Names.{Reason, numberOf, largest, hard}
+use Rattle.dimacs.specs.Names.{Reason, inMode, numberOf, largest, hard}
 use Rattle.dimacs.specs.Tokens.{unmoved, blanks, lines, word, uintAt}
 use Rattle.dimacs.specs.Header.{openingOf}
 use Rattle.dimacs.specs.Clauses.{isZero, startBy, startIn2022}
 use Rattle.dimacs.specs.Texts.{text}
 use Rattle.dimacs.specs.declared.Format.the-variants.{Weighted2022}
-use Rattle.dimacs.specs.declared.Mode.{Mode}
+use Rattle.dimacs.specs.declared.Rigor.{Rigor}
+use Rattle.dimacs.specs.declared.Ends.{Ends}
 use Rattle.dimacs.specs.declared.Opening.the-variants as opening
 use Rattle.dimacs.specs.declared.Absence.{Absence}
 use Rattle.dimacs.specs.declared.Start.{Start}
@@ -24,9 +25,9 @@ pub no-header-in-2022 : (s : List ℕ) → openingOf s Weighted2022 ≡ opening.
 unfolding openingOf
 no-header-in-2022 s = refl
 
-pub modes-alike-in-2022 : (m n : Mode) (room : ℕ) (s : List ℕ) → text Weighted2022 m room s ≡ text Weighted2022 n room s
+pub modes-alike-in-2022 : (m n : Rigor) (rule : Ends) (room : ℕ) (s : List ℕ) → text Weighted2022 (inMode m rule) room s ≡ text Weighted2022 (inMode n rule) room s
 unfolding text openingOf
-modes-alike-in-2022 m n room s = refl
+modes-alike-in-2022 m n rule room s = refl
 
 -- A clause that begins so is hard or not.
 abbrev pub Hard : Bool → Start → Type 0

@@ -6,6 +6,8 @@ pub mod Bytes
 pub mod Past
 pub mod Spans
 pub mod Lines
+pub mod Lined
+pub mod LinedTokens
 pub mod Words
 pub mod Numbers
 pub mod Rows
@@ -16,6 +18,7 @@ pub mod Order
 pub mod Texts
 pub mod In2022
 pub mod Logs
+pub mod Modes
 pub mod Writing
 pub mod WordEnds
 pub mod Alike

@@ -10,11 +10,13 @@ use lib.IntN.{ℤ}
 use Rattle.dimacs.specs.Loop.{Step, again, answer}
 use Rattle.dimacs.specs.Bytes.{bytes}
 use Rattle.dimacs.specs.Names.{Reason, numbered, refusal, ceiling}
+use Rattle.dimacs.specs.Lined.{lined}
 use Rattle.dimacs.specs.Tokens.{unmoved, atEnd, blanks, fixed, strictComment, endOfLine, lineEnds}
 use Rattle.dimacs.specs.Rows.{Row, ends, closes, stops, reads, row}
-use Rattle.dimacs.specs.Logs.{LogAnswer, accepted, refusedLog, Log, logAt, isClosed, isSaid, lineRead, valuesRead, valueLine, solutionIs, solutionLine, logEnd, otherLine, logLine, logFrom, log}
+use Rattle.dimacs.specs.Logs.{LogAnswer, accepted, refusedLog, Log, logAt, logBegin, isClosed, isSaid, lineRead, valuesRead, valueLine, solutionIs, solutionLine, logEnd, otherLine, logLine, logFrom, log}
 use Rattle.dimacs.specs.declared.Mode.{Mode}
-use Rattle.dimacs.specs.declared.Mode.the-variants.{Strict, Lenient}
+use Rattle.dimacs.specs.declared.Rigor.{Rigor}
+use Rattle.dimacs.specs.declared.Rigor.the-variants.{Strict, Lenient}
 use Rattle.dimacs.specs.declared.Verdict.{Verdict}
 use Rattle.dimacs.specs.declared.Assignment.{Assignment}
 use Rattle.dimacs.specs.declared.Assignment.the-variants.{Unbegun, Begun, Closed}
@@ -23,6 +25,7 @@ use Rattle.dimacs.specs.declared.EndOfLine.the-variants as end
 use Rattle.dimacs.proofs.Loops.{Leads, Falls, after, unrolled, kept}
 use Rattle.dimacs.proofs.Tests.{chosen, neither-right}
 use Rattle.dimacs.proofs.Spans.{Spans, then-spans, Moves, moves, then-moves, EndCloses, end-closes, blanks-spans, strict-comment-spans, next-line-moves, fixed-spans}
+use Rattle.dimacs.proofs.Lined.{lined-length}
 use Rattle.dimacs.proofs.Rows.{RowSpans, row-spans}
 
 -- A line leads to a later place within the text, or to an answer whose refusal is within reach.
@@ -78,14 +81,14 @@ module _ (s : List ℕ) (room : ℕ) where
   log-end-spans at verdict so Begun = omega arith
   log-end-spans at verdict so Closed = tt
 
-  other-line-leads : (mode : Mode) (l : Log) → l .at < length s → LineLeads s (l .at) (otherLine s mode l)
+  other-line-leads : (rigor : Rigor) (l : Log) → l .at < length s → LineLeads s (l .at) (otherLine s rigor l)
   unfolding numbered
   other-line-leads Strict l h = omega arith
   other-line-leads Lenient l h = next-line-moves s (l .at) h
 
-module _ (s : List ℕ) (mode : Mode) (room : ℕ) where
+module _ (s : List ℕ) (rigor : Rigor) (room : ℕ) where
   -- Each line leads on.
-  pub log-line-leads : (l : Log) → LineLeads s (l .at) (logLine s mode room l)
+  pub log-line-leads : (l : Log) → LineLeads s (l .at) (logLine s rigor room l)
   unfolding logLine
   log-line-leads l =
       let at = l .at in
@@ -97,7 +100,7 @@ module _ (s : List ℕ) (mode : Mode) (room : ℕ) where
       (λ _. chosen (LineLeads s at) (isSaid (l .verdict) || unmoved at e)
       (λ _. chosen (LineLeads s at) (atEnd s at)
       (λ _. log-end-spans s room at (l .verdict) (l .so) (l .assignment))
-      (λ k. other-line-leads s room mode l (leb-false (length s) at k)))
+      (λ k. other-line-leads s room rigor l (leb-false (length s) at k)))
       (λ k. solution-line-leads s room at e l (moves (fixed-spans s at (bytes "s ")) (neither-right (isSaid (l .verdict)) (unmoved at e) k))))
       (λ k. value-line-leads s room at v l (moves (fixed-spans s at (bytes "v ")) (neither-right (isClosed (l .assignment)) (unmoved at v) k))))
       (λ k. moves (strict-comment-spans s at) k)
@@ -105,27 +108,26 @@ module _ (s : List ℕ) (mode : Mode) (room : ℕ) where
   rest-of : Log → ℕ
   rest-of l = length s - l .at
 
-  log-falls : (l : Log) → Falls rest-of l (logLine s mode room l)
+  log-falls : (l : Log) → Falls rest-of l (logLine s rigor room l)
   unfolding rest-of
-  log-falls l = go (logLine s mode room l) (log-line-leads l)
+  log-falls l = go (logLine s rigor room l) (log-line-leads l)
     where
       go : (t : Step Log LogAnswer) → LineLeads s (l .at) t → Falls rest-of l t
       go (again x) h = omega arith
       go (answer a) h = tt
 
   -- One line, and then the rest of them.
-  pub log-step : (l : Log) → logFrom s mode room l ≡ after (logLine s mode room l) (logFrom s mode room)
+  pub log-step : (l : Log) → logFrom s rigor room l ≡ after (logLine s rigor room l) (logFrom s rigor room)
   unfolding logFrom rest-of
-  log-step l = unrolled (logLine s mode room) _ rest-of log-falls (suc (length s)) l (omega arith)
+  log-step l = unrolled (logLine s rigor room) _ rest-of log-falls (suc (length s)) l (omega arith)
 
   -- What each line keeps, and each answer then has, the log's answer has.
-  pub log-kept : (P : Log → Type 0) (Q : LogAnswer → Type 0) → ((l : Log) → P l → Leads P Q (logLine s mode room l)) → (l : Log) → P l → Q (logFrom s mode room l)
+  pub log-kept : (P : Log → Type 0) (Q : LogAnswer → Type 0) → ((l : Log) → P l → Leads P Q (logLine s rigor room l)) → (l : Log) → P l → Q (logFrom s rigor room l)
   unfolding logFrom rest-of
-  log-kept P Q keeps l = kept (logLine s mode room) _ rest-of log-falls P Q keeps (suc (length s)) l (omega arith)
+  log-kept P Q keeps l = kept (logLine s rigor room) _ rest-of log-falls P Q keeps (suc (length s)) l (omega arith)
 
-  pub log-spans : LogSpans s 0 (log s mode room)
-  unfolding log
-  log-spans = log-kept (λ l. Spans s 0 (l .at)) (LogSpans s 0) (λ l h. go (l .at) h (logLine s mode room l) (log-line-leads l)) _ (omega arith)
+  log-from-spans : (l : Log) → Spans s 0 (l .at) → LogSpans s 0 (logFrom s rigor room l)
+  log-from-spans = log-kept (λ l. Spans s 0 (l .at)) (LogSpans s 0) (λ l h. go (l .at) h (logLine s rigor room l) (log-line-leads l))
     where
       to : (at : ℕ) → Spans s 0 at → (a : LogAnswer) → LogSpans s at a → LogSpans s 0 a
       to at h (accepted v so) k = tt
@@ -134,3 +136,11 @@ module _ (s : List ℕ) (mode : Mode) (room : ℕ) where
       go : (at : ℕ) → Spans s 0 at → (t : Step Log LogAnswer) → LineLeads s at t → Leads (λ l. Spans s 0 (l .at)) (LogSpans s 0) t
       go at h (again x) k = omega arith
       go at h (answer a) k = to at h a k
+
+pub log-spans : (s : List ℕ) (m : Mode) (room : ℕ) → LogSpans s 0 (log s m room)
+unfolding log
+log-spans s m room = go (logFrom (lined (m .ends) s) (m .rigor) room logBegin) (log-from-spans (lined (m .ends) s) (m .rigor) room logBegin (omega arith))
+  where
+    go : (a : LogAnswer) → LogSpans (lined (m .ends) s) 0 a → LogSpans s 0 a
+    go (accepted v so) h = tt
+    go (refusedLog r so) h = omega (arith, lined-length (m .ends) s)

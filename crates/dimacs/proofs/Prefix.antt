@@ -7,24 +7,29 @@ use borrow.Author.Tests.{leb-true, leb-false}
 use lib.Dec.{leb}
 use lib.ListN.{length, getD, take, length-take}
 use lib.Seq.{take-all, take-take, getD-take}
+use Rattle.dimacs.specs.Bytes.{isNotStop}
 use Rattle.dimacs.specs.Header.{openingOf, unlimited, limitsOf}
 use Rattle.dimacs.specs.Clauses.{Answer, clause, ended, refused}
 use Rattle.dimacs.specs.Texts.{answerAt, settled, turnBy, turn, answersFrom, begin, textBy, text}
-use Rattle.dimacs.specs.Logs.{log}
-use Rattle.dimacs.specs.Seen.{Agree, answerSeen, openingSeen, answersSeen, textSeenBy, textSeen, SameFirst, logSeen}
+use Rattle.dimacs.specs.Lined.{lined}
+use Rattle.dimacs.specs.Logs.{LogAnswer, accepted, refusedLog, logBegin, logFrom, log}
+use Rattle.dimacs.specs.Seen.{Agree, answerSeen, openingSeen, answersSeen, textSeenBy, withNext, textSeen, SameFirst, logSeen}
 use Rattle.dimacs.specs.declared.Format.{Format}
 use Rattle.dimacs.specs.declared.Limits.{Limits}
 use Rattle.dimacs.specs.declared.Mode.{Mode}
+use Rattle.dimacs.specs.declared.Rigor.{Rigor}
 use Rattle.dimacs.specs.declared.Opening.{Opening}
 use Rattle.dimacs.specs.declared.Opening.the-variants as opening
 use Rattle.dimacs.specs.declared.Progress.{Progress}
 use Rattle.dimacs.proofs.Loops.{andOn}
 use Rattle.dimacs.proofs.Tests.{tested}
+use Rattle.dimacs.proofs.Lined.{lined-length, agree-lined}
+use Rattle.dimacs.proofs.LinedTokens.{past-lined}
 use Rattle.dimacs.proofs.Texts.{answers-step}
 use Rattle.dimacs.proofs.Alike.{Alike}
 use Rattle.dimacs.proofs.AlikeClauses.{answer-same}
 use Rattle.dimacs.proofs.AlikeOpenings.{opening-same}
-use Rattle.dimacs.proofs.AlikeLogs.{log-same}
+use Rattle.dimacs.proofs.AlikeLogs.{log-from-same}
 
 -- What is so of a text, and of each of at least n bytes that is alike in the first n, is so of each that agrees with it on n.
 agreeing : (P : List ℕ → Type 0) (n : ℕ) (s t : List ℕ) → P s → (Alike n s t → P t) → Agree n s t → P t
@@ -78,18 +83,18 @@ module _ (s t : List ℕ) (f : Format) (limits : Limits) (room : ℕ) where
       go ended q h = refl
       go (refused r so) q h = refl
 
--- Nor do the opening of a whole text and its first k answers.
-pub text-prefix : (f : Format) (m : Mode) (room k : ℕ) (s t : List ℕ) → Agree (textSeen f m room k s) s t → SameFirst k (text f m room t) (text f m room s)
-unfolding text
-text-prefix f m room k s t = go (openingOf s f) (opening-prefix s t f)
+-- Nor do an opening and the first k answers.
+prefix-by : (f : Format) (rigor : Rigor) (room k : ℕ) (s t : List ℕ) → Agree (textSeenBy f rigor room k s (openingOf s f)) s t
+    → SameFirst k (textBy f rigor room t (openingOf t f)) (textBy f rigor room s (openingOf s f))
+prefix-by f rigor room k s t = go (openingOf s f) (opening-prefix s t f)
   where
-    go : (o : Opening) → (Agree (openingSeen s o) s t → openingOf t f ≡ o) → Agree (textSeenBy f m room k s o) s t
-        → SameFirst k (textBy f m room t (openingOf t f)) (textBy f m room s o)
+    go : (o : Opening) → (Agree (openingSeen s o) s t → openingOf t f ≡ o) → Agree (textSeenBy f rigor room k s o) s t
+        → SameFirst k (textBy f rigor room t (openingOf t f)) (textBy f rigor room s o)
     go (opening.Header h at) is e =
         let x = openingSeen s (opening.Header h at) in
-        let y = answersSeen s f (limitsOf f m h) room k (begin at) in
+        let y = answersSeen s f (limitsOf f rigor h) room k (begin at) in
         rw (is (agree-less x (max x y) s t (omega arith) e))
-        (record { opened = refl; answers = answers-prefix s t f (limitsOf f m h) room k (begin at) (agree-less y (max x y) s t (omega arith) e) })
+        (record { opened = refl; answers = answers-prefix s t f (limitsOf f rigor h) room k (begin at) (agree-less y (max x y) s t (omega arith) e) })
     go (opening.NoHeader at) is e =
         let x = openingSeen s (opening.NoHeader at) in
         let y = answersSeen s f unlimited room k (begin at) in
@@ -97,7 +102,24 @@ text-prefix f m room k s t = go (openingOf s f) (opening-prefix s t f)
         (record { opened = refl; answers = answers-prefix s t f unlimited room k (begin at) (agree-less y (max x y) s t (omega arith) e) })
     go (opening.Refused r) is e = rw (is e) (record { opened = refl; answers = refl })
 
+-- Nor do the opening of a whole text and its first k answers.
+pub text-prefix : (f : Format) (m : Mode) (room k : ℕ) (s t : List ℕ) → Agree (textSeen f m room k s) s t → SameFirst k (text f m room t) (text f m room s)
+unfolding text
+text-prefix f m room k s t e =
+    let read = lined (m .ends) s in
+    prefix-by f (m .rigor) room k read (lined (m .ends) t) (agree-lined (m .ends) (textSeenBy f (m .rigor) room k read (openingOf read f)) s t e)
+
 -- Nor does a log.
-pub log-prefix : (s t : List ℕ) (m : Mode) (room : ℕ) → Agree (logSeen s (log s m room)) s t → log t m room ≡ log s m room
-log-prefix s t m room =
-    agreeing (λ x. log x m room ≡ log s m room) (logSeen s (log s m room)) s t refl (λ a. log-same a m room (omega arith))
+pub log-prefix : (s t : List ℕ) (m : Mode) (room : ℕ) → Agree (withNext (m .ends) (logSeen s (log s m room))) s t → log t m room ≡ log s m room
+unfolding log
+log-prefix s t m room e =
+    let from : List ℕ → LogAnswer = λ x. logFrom x (m .rigor) room logBegin in
+    let read = lined (m .ends) s in
+    let n = logSeen s (from read) in
+    agreeing (λ x. from x ≡ from read) n read (lined (m .ends) t) refl
+    (λ a. log-from-same a (m .rigor) room logBegin (omega (arith, as-read (from read))))
+    (agree-lined (m .ends) n s t e)
+  where
+    as-read : (a : LogAnswer) → logSeen (lined (m .ends) s) a ≡ logSeen s a
+    as-read (accepted v so) = rw (lined-length (m .ends) s)
+    as-read (refusedLog r so) = rw (past-lined (m .ends) isNotStop refl s (r .place))

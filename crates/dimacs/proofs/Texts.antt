@@ -9,6 +9,7 @@ use lib.ListN.{length}
 use lib.IntN.{ℤ}
 use Rattle.dimacs.specs.Bytes.{bytes}
 use Rattle.dimacs.specs.Names.{Reason, numbered, refusal, ceiling, largest}
+use Rattle.dimacs.specs.Lined.{lined}
 use Rattle.dimacs.specs.Tokens.{unmoved, blanks, lines, word, uintAt, endOfLine, lineEnds}
 use Rattle.dimacs.specs.Header.{hasHeader, hasThird, formatWord, headerOf, counted, headerEnd, thirdThere, thirdCount, clauseCount, variableCount, afterP, openingOf, unlimited, limitsOf}
 use Rattle.dimacs.specs.Clauses.{Answer, clause, ended, refused, Answered, says, instead, absent, clauseAt}
@@ -16,6 +17,7 @@ use Rattle.dimacs.specs.Texts.{progress, oneMore, nextClause, answerBy, 
 use Rattle.dimacs.specs.declared.Format.{Format}
 use Rattle.dimacs.specs.declared.Limits.{Limits}
 use Rattle.dimacs.specs.declared.Mode.{Mode}
+use Rattle.dimacs.specs.declared.Rigor.{Rigor}
 use Rattle.dimacs.specs.declared.Header.{Header}
 use Rattle.dimacs.specs.declared.Opening.{Opening}
 use Rattle.dimacs.specs.declared.Opening.the-variants as opening
@@ -31,6 +33,7 @@ use Rattle.dimacs.specs.declared.Final.the-variants as final
 use Rattle.dimacs.proofs.Loops.{andOn, Gives, Lowers, said-unrolled, said-has}
 use Rattle.dimacs.proofs.Tests.{chosen}
 use Rattle.dimacs.proofs.Spans.{then-spans, EndCloses, end-closes, blanks-spans, lines-spans, word-spans, UintMoves, uint-moves, UintWithin, uint-within}
+use Rattle.dimacs.proofs.Lined.{lined-length}
 use Rattle.dimacs.proofs.Clauses.{toCome, Placed, Onward, back, absent-onward, clause-at-onward, Fits, instead-fits, clause-at-fits}
 
 -- Where a text opens: the clauses begin, or the header is refused, within the text, and no more variables are counted than the ceiling.
@@ -175,64 +178,70 @@ repeated s f limits room c at ended = record { answer = refl; stays = refl }
 repeated s f limits room c at (refused r so) = record { answer = refl; stays = refl }
 
 -- A whole text: a refused header has no answers; else they finish, with at most (n + 1) / 2 clauses in n bytes.
-abbrev pub TextEnds : List ℕ → Opening → List Answer → Type 0
-TextEnds s (opening.Header h at) l = Finished ((length s + 1) / 2) l
-TextEnds s (opening.NoHeader at) l = Finished ((length s + 1) / 2) l
-TextEnds s (opening.Refused r) l = l ≡ []
+abbrev pub TextEnds : ℕ → Opening → List Answer → Type 0
+TextEnds n (opening.Header h at) l = Finished ((n + 1) / 2) l
+TextEnds n (opening.NoHeader at) l = Finished ((n + 1) / 2) l
+TextEnds n (opening.Refused r) l = l ≡ []
 
-pub text-ends : (f : Format) (m : Mode) (room : ℕ) (s : List ℕ) → TextEnds s (text f m room s .opened) (text f m room s .answers)
-unfolding text
-text-ends f m room s = go (openingOf s f)
+ends-by : (f : Format) (rigor : Rigor) (room : ℕ) (s : List ℕ) → let t = textBy f rigor room s (openingOf s f) in TextEnds (length s) (t .opened) (t .answers)
+ends-by f rigor room s = go (openingOf s f)
   where
     from : (limits : Limits) (at : ℕ) → Finished ((length s + 1) / 2) (answersFrom s f limits room (begin at))
     from limits at = let d = answers-finish s f limits room (begin at) in record { clauses = d .clauses; few = omega (arith, d .few); so = d .so }
 
-    go : (o : Opening) → TextEnds s (textBy f m room s o .opened) (textBy f m room s o .answers)
-    go (opening.Header h at) = from (limitsOf f m h) at
+    go : (o : Opening) → TextEnds (length s) (textBy f rigor room s o .opened) (textBy f rigor room s o .answers)
+    go (opening.Header h at) = from (limitsOf f rigor h) at
     go (opening.NoHeader at) = from unlimited at
     go (opening.Refused r) = refl
 
+pub text-ends : (f : Format) (m : Mode) (room : ℕ) (s : List ℕ) → TextEnds (length s) (text f m room s .opened) (text f m room s .answers)
+unfolding text
+text-ends f m room s = rw (lined-length (m .ends) s) at (ends-by f (m .rigor) room (lined (m .ends) s))
+
 -- A refusal's place is within the text.
-abbrev pub AnswerWithin : List ℕ → Answer → Type 0
-AnswerWithin s (clause extra so) = Unit {0}
-AnswerWithin s ended = Unit {0}
-AnswerWithin s (refused r so) = r .place ≤ length s
+abbrev pub AnswerWithin : ℕ → Answer → Type 0
+AnswerWithin n (clause extra so) = Unit {0}
+AnswerWithin n ended = Unit {0}
+AnswerWithin n (refused r so) = r .place ≤ n
 
-abbrev pub AllWithin : List ℕ → List Answer → Type 0
-AllWithin s [] = Unit {0}
-AllWithin s (a ∷ l) = AnswerWithin s a × AllWithin s l
+abbrev pub AllWithin : ℕ → List Answer → Type 0
+AllWithin n [] = Unit {0}
+AllWithin n (a ∷ l) = AnswerWithin n a × AllWithin n l
 
-abbrev pub OpeningWithin : List ℕ → Opening → Type 0
-OpeningWithin s (opening.Header h at) = Unit {0}
-OpeningWithin s (opening.NoHeader at) = Unit {0}
-OpeningWithin s (opening.Refused r) = r .place ≤ length s
+abbrev pub OpeningWithin : ℕ → Opening → Type 0
+OpeningWithin n (opening.Header h at) = Unit {0}
+OpeningWithin n (opening.NoHeader at) = Unit {0}
+OpeningWithin n (opening.Refused r) = r .place ≤ n
 
 module _ (s : List ℕ) (f : Format) (limits : Limits) (room : ℕ) where
   abbrev from : ℕ → ℕ → List Answer
   from at count = answersFrom s f limits room (progress at count final.Open)
 
-  answers-within : (n at count : ℕ) → at ≤ length s → toCome s at < n → AllWithin s (from at count)
+  answers-within : (n at count : ℕ) → at ≤ length s → toCome s at < n → AllWithin (length s) (from at count)
   unfolding turn answerAt
   answers-within zero at count h k = absurd (omega arith)
   answers-within (suc n) at count h k =
       let d = nextClause s f limits room count at in
-      subst (AllWithin s) (sym (answers-step s f limits room (progress at count final.Open)))
+      subst (AllWithin (length s)) (sym (answers-step s f limits room (progress at count final.Open)))
       (go (d .place) (d .answer) (next-clause-onward s f limits room count at) (λ e h′ k′. answers-within n e (oneMore count) h′ k′))
     where
-      go : (e : ℕ) (a : Answer) → Placed s at e a → ((e′ : ℕ) → e′ ≤ length s → toCome s e′ < n → AllWithin s (from e′ (oneMore count)))
-          → AllWithin s (andOn (turnBy (settledBy count e (finalOf a)) a) (answersFrom s f limits room))
+      go : (e : ℕ) (a : Answer) → Placed s at e a → ((e′ : ℕ) → e′ ≤ length s → toCome s e′ < n → AllWithin (length s) (from e′ (oneMore count)))
+          → AllWithin (length s) (andOn (turnBy (settledBy count e (finalOf a)) a) (answersFrom s f limits room))
       go e (clause extra so) p next = (tt, next e (p .within) (omega (arith, p .fewer)))
       go e ended p next = (tt, tt)
       go e (refused r so) p next = (omega (arith, p .within), tt)
 
-pub text-within : (f : Format) (m : Mode) (room : ℕ) (s : List ℕ) → let t = text f m room s in OpeningWithin s (t .opened) × AllWithin s (t .answers)
-unfolding text
-text-within f m room s = go (openingOf s f) (opening-opens s f)
+within-by : (f : Format) (rigor : Rigor) (room : ℕ) (s : List ℕ) → let t = textBy f rigor room s (openingOf s f) in OpeningWithin (length s) (t .opened) × AllWithin (length s) (t .answers)
+within-by f rigor room s = go (openingOf s f) (opening-opens s f)
   where
-    from-start : (limits : Limits) (at : ℕ) → at ≤ length s → AllWithin s (answersFrom s f limits room (begin at))
+    from-start : (limits : Limits) (at : ℕ) → at ≤ length s → AllWithin (length s) (answersFrom s f limits room (begin at))
     from-start limits at h = answers-within s f limits room (suc (toCome s at)) at 0 h (omega arith)
 
-    go : (o : Opening) → Opens s o → let t = textBy f m room s o in OpeningWithin s (t .opened) × AllWithin s (t .answers)
-    go (opening.Header h at) k = (tt, from-start (limitsOf f m h) at (k .0))
+    go : (o : Opening) → Opens s o → let t = textBy f rigor room s o in OpeningWithin (length s) (t .opened) × AllWithin (length s) (t .answers)
+    go (opening.Header h at) k = (tt, from-start (limitsOf f rigor h) at (k .0))
     go (opening.NoHeader at) k = (tt, from-start unlimited at k)
     go (opening.Refused r) k = (k, tt)
+
+pub text-within : (f : Format) (m : Mode) (room : ℕ) (s : List ℕ) → let t = text f m room s in OpeningWithin (length s) (t .opened) × AllWithin (length s) (t .answers)
+unfolding text
+text-within f m room s = rw (lined-length (m .ends) s) at (within-by f (m .rigor) room (lined (m .ends) s))

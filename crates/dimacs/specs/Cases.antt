@@ -1,13 +1,14 @@
 -- The texts on both sides of document 01, with what the definition says of each. Assumes nothing.
 use Prim.Native.Nat.{ℕ}
 use Prim.Native.String.{String}
-use mathlib.Core.List.{List, [], _∷_, map}
+use mathlib.Core.List.{List, [], _∷_, _++_, map}
 use mathlib.Core.Path.{_≡_, refl}
 use lib.ListN.{length}
 use lib.IntN.{ℤ, pos, negsuc}
 use Rattle.dimacs.specs.Loop.{loop, said}
 use Rattle.dimacs.specs.Bytes.{bytes}
-use Rattle.dimacs.specs.Names.{numbered}
+use Rattle.dimacs.specs.Names.{inMode, numbered}
+use Rattle.dimacs.specs.Lined.{lined}
 use Rattle.dimacs.specs.Tokens.{run, past, begins, decimal, lineEnd, nextLine, endOfLine, fixed, wordEnds, word, strictComment, newline, linePast, commentOrNewline, lines, linebreaks, unsigned, braced, minus, uintAt, bracedUintAt, intAt, stoppedAt}
 use Rattle.dimacs.specs.Header.{headerOf, headerEnd, thirdThere, thirdCount, clauseCount, variableCount, afterP, openingOf}
 use Rattle.dimacs.specs.Rows.{nextInt, row}
@@ -19,7 +20,10 @@ use Rattle.dimacs.specs.Seen.{answersSeen, textSeen}
 use Rattle.dimacs.specs.declared.Format.{Format}
 use Rattle.dimacs.specs.declared.Format.the-variants.{Plain, Weighted, Grouped, Weighted2022}
 use Rattle.dimacs.specs.declared.Mode.{Mode}
-use Rattle.dimacs.specs.declared.Mode.the-variants.{Strict, Lenient}
+use Rattle.dimacs.specs.declared.Rigor.{Rigor}
+use Rattle.dimacs.specs.declared.Rigor.the-variants.{Strict, Lenient}
+use Rattle.dimacs.specs.declared.Ends.{Ends}
+use Rattle.dimacs.specs.declared.Ends.the-variants.{LineFeed, AlsoReturn}
 use Rattle.dimacs.specs.declared.Opening.{Opening}
 use Rattle.dimacs.specs.declared.Opening.the-variants as opening
 use Rattle.dimacs.specs.declared.Refusal.{Refusal}
@@ -73,7 +77,7 @@ linesBy Log m room s = logLines (log s m room)
 
 -- What the definition says of a case's text.
 pub linesOf : Case → List Line
-unfolding loop said numbered run past begins decimal lineEnd nextLine endOfLine fixed wordEnds word strictComment newline linePast commentOrNewline lines linebreaks unsigned braced minus uintAt bracedUintAt intAt headerEnd thirdThere thirdCount clauseCount variableCount afterP openingOf nextInt row nextRow literalsFrom literals absent startIn2022 startAt closing clauseAt nextClause answerAt turn answersFrom text valueLine solutionLine logLine logFrom log
+unfolding loop said numbered lined run past begins decimal lineEnd nextLine endOfLine fixed wordEnds word strictComment newline linePast commentOrNewline lines linebreaks unsigned braced minus uintAt bracedUintAt intAt headerEnd thirdThere thirdCount clauseCount variableCount afterP openingOf nextInt row nextRow literalsFrom literals absent startIn2022 startAt closing clauseAt nextClause answerAt turn answersFrom text valueLine solutionLine logLine logFrom log
 linesOf c = linesBy (c .kind) (c .mode) (c .room) (bytes (c .quoted))
 
 -- The definition says of every text in the table what is expected.
@@ -84,22 +88,22 @@ abbrev case : Kind → Mode → String → List Line → Case
 case k m q e = record { kind = k; mode = m; room = 1024; quoted = q; expected = e }
 
 abbrev plain : String → List Line → Case
-plain = case (Formula Plain) Strict
+plain = case (Formula Plain) (inMode Strict LineFeed)
 
 abbrev weighted : String → List Line → Case
-weighted = case (Formula Weighted) Strict
+weighted = case (Formula Weighted) (inMode Strict LineFeed)
 
 abbrev grouped : String → List Line → Case
-grouped = case (Formula Grouped) Strict
+grouped = case (Formula Grouped) (inMode Strict LineFeed)
 
 abbrev weighted2022 : Mode → String → List Line → Case
 weighted2022 = case (Formula Weighted2022)
 
 abbrev strictLog : String → List Line → Case
-strictLog = case Log Strict
+strictLog = case Log (inMode Strict LineFeed)
 
 abbrev lenientLog : String → List Line → Case
-lenientLog = case Log Lenient
+lenientLog = case Log (inMode Lenient LineFeed)
 
 abbrev withRoom : ℕ → Case → Case
 withRoom n c = record { kind = c .kind; mode = c .mode; room = n; quoted = c .quoted; expected = c .expected }
@@ -209,7 +213,40 @@ pub verdicts-hold : Hold verdicts
 unfolding linesOf
 verdicts-hold = refl
 
--- Texts of the 2022 form, which both modes read alike.
+-- A text in modes 0 to 3, with what is expected in each.
+abbrev inModes : Kind → String → List Line → List Line → List Line → List Line → List Case
+inModes k q e₀ e₁ e₂ e₃ =
+    case k (inMode Strict LineFeed) q e₀
+    ∷ case k (inMode Lenient LineFeed) q e₁
+    ∷ case k (inMode Strict AlsoReturn) q e₂
+    ∷ case k (inMode Lenient AlsoReturn) q e₃
+    ∷ []
+
+-- A plain text, with what is expected in modes 0 and 1, and in modes 2 and 3.
+abbrev byLineEnds : String → List Line → List Line → List Case
+byLineEnds q e₀ e₂ = inModes (Formula Plain) q e₀ e₀ e₂ e₂
+
+-- Texts with CR. The last shows a count that mode 2 applies and mode 3 does not.
+abbrev pub returns : List Case
+returns =
+    byLineEnds "1 0\r" (NoHeader ∷ Refused 5 3 1 ∷ []) (NoHeader ∷ Clause 0 (pos 1 ∷ []) ∷ End ∷ [])
+    ++ byLineEnds "1 0\r2 0\r" (NoHeader ∷ Refused 5 3 1 ∷ []) (NoHeader ∷ Clause 0 (pos 1 ∷ []) ∷ Clause 0 (pos 2 ∷ []) ∷ End ∷ [])
+    ++ byLineEnds "1 0\r\n2 0" (NoHeader ∷ Clause 0 (pos 1 ∷ []) ∷ Clause 0 (pos 2 ∷ []) ∷ End ∷ []) (NoHeader ∷ Clause 0 (pos 1 ∷ []) ∷ Clause 0 (pos 2 ∷ []) ∷ End ∷ [])
+    ++ byLineEnds "c x\r1 0" (NoHeader ∷ End ∷ []) (NoHeader ∷ Clause 0 (pos 1 ∷ []) ∷ End ∷ [])
+    ++ byLineEnds "c x\r\r\n1 0" (NoHeader ∷ Clause 0 (pos 1 ∷ []) ∷ End ∷ []) (NoHeader ∷ Clause 0 (pos 1 ∷ []) ∷ End ∷ [])
+    ++ byLineEnds "1\r0" (NoHeader ∷ Refused 6 1 1 ∷ []) (NoHeader ∷ Clause 0 (pos 1 ∷ []) ∷ End ∷ [])
+    ++ byLineEnds "p cnf 1 1\r1 0" (Refused 5 9 0 ∷ []) (Header 1 1 0 ∷ Clause 0 (pos 1 ∷ []) ∷ End ∷ [])
+    ++ byLineEnds "\r" (NoHeader ∷ Refused 9 0 0 ∷ []) (NoHeader ∷ End ∷ [])
+    ++ byLineEnds "1 0\r\r2 0" (NoHeader ∷ Refused 5 3 1 ∷ []) (NoHeader ∷ Clause 0 (pos 1 ∷ []) ∷ Clause 0 (pos 2 ∷ []) ∷ End ∷ [])
+    ++ inModes Log "s UNKNOWN\rs SATISFIABLE\r" (Refused 5 9 0 ∷ []) (Refused 5 9 0 ∷ []) (Refused 18 10 0 ∷ []) (Says Unknown [] ∷ [])
+    ++ inModes Log "c x\rjunk\rs SATISFIABLE\r" (Says None [] ∷ []) (Says None [] ∷ []) (Refused 18 4 0 ∷ []) (Says Yes [] ∷ [])
+    ++ inModes (Formula Plain) "p cnf 1 1\r2 0\r" (Refused 5 9 0 ∷ []) (Refused 5 9 0 ∷ []) (Header 1 1 0 ∷ Refused 15 10 0 ∷ []) (Header 1 1 0 ∷ Clause 0 (pos 2 ∷ []) ∷ End ∷ [])
+
+pub returns-hold : Hold returns
+unfolding linesOf
+returns-hold = refl
+
+-- Texts of the 2022 form, which all modes read alike, as no CR stands in them.
 abbrev pub in2022 : Mode → List Case
 in2022 m =
     weighted2022 m "h 1 0" (NoHeader ∷ Clause 0 (pos 1 ∷ []) ∷ End ∷ [])
@@ -236,9 +273,10 @@ in2022 m =
     ∷ weighted2022 m "" (NoHeader ∷ End ∷ [])
     ∷ []
 
-pub in-2022-hold : (m : Mode) → Hold (in2022 m)
+pub in-2022-hold : (rigor : Rigor) (rule : Ends) → Hold (in2022 (inMode rigor rule))
 unfolding linesOf
-in-2022-hold m = refl
+in-2022-hold rigor LineFeed = refl
+in-2022-hold rigor AlsoReturn = refl
 
 -- The word a reader stopped at: a text, a place and the word there.
 pub record Stop : Type 0 where
@@ -286,9 +324,22 @@ settling =
     ∷ record { quoted = "p dnf 2 1\n1 0\n"; first = 1; settled-by = 7 }
     ∷ []
 
-pub settling-holds : map (λ c. textSeen Plain Strict 1024 (c .first) (bytes (c .quoted))) settling ≡ map (λ c. c .settled-by) settling
-unfolding loop numbered run past begins decimal lineEnd nextLine endOfLine fixed wordEnds word newline linePast commentOrNewline lines linebreaks unsigned minus uintAt intAt headerEnd thirdThere thirdCount clauseCount variableCount afterP openingOf nextInt row nextRow literalsFrom literals absent startIn2022 startAt closing clauseAt nextClause answerAt answersSeen
-settling-holds = refl
+-- The same where a CR alone ends a line.
+abbrev pub settlingReturns : List Settles
+settlingReturns =
+    record { quoted = "1 0\r2 0\r"; first = 1; settled-by = 5 }
+    ∷ record { quoted = "1 0\r\n2 0\n"; first = 1; settled-by = 6 }
+    ∷ record { quoted = "1 0\r"; first = 1; settled-by = 5 }
+    ∷ record { quoted = "1 0\r0"; first = 1; settled-by = 5 }
+    ∷ []
+
+-- So many bytes settle each text in the table.
+abbrev pub Settle : Ends → List Settles → Type 0
+Settle rule cases = map (λ c. textSeen Plain (inMode Strict rule) 1024 (c .first) (bytes (c .quoted))) cases ≡ map (λ c. c .settled-by) cases
+
+pub settling-holds : Settle LineFeed settling × Settle AlsoReturn settlingReturns
+unfolding loop numbered lined run past begins decimal lineEnd nextLine endOfLine fixed wordEnds word newline linePast commentOrNewline lines linebreaks unsigned minus uintAt intAt headerEnd thirdThere thirdCount clauseCount variableCount afterP openingOf nextInt row nextRow literalsFrom literals absent startIn2022 startAt closing clauseAt nextClause answerAt answersSeen
+settling-holds = (refl, refl)
 
 -- What a writer is asked, and what it comes to.
 pub record Writes : Type 0 where

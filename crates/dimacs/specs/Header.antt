@@ -8,8 +8,8 @@ use Rattle.dimacs.specs.Names.{Reason, refusal, ceiling, largest}
 use Rattle.dimacs.specs.Tokens.{unmoved, blanks, lines, word, uintAt, endOfLine, lineEnds}
 use Rattle.dimacs.specs.declared.Format.{Format}
 use Rattle.dimacs.specs.declared.Format.the-variants.{Plain, Weighted, Grouped, Weighted2022}
-use Rattle.dimacs.specs.declared.Mode.{Mode}
-use Rattle.dimacs.specs.declared.Mode.the-variants.{Strict, Lenient}
+use Rattle.dimacs.specs.declared.Rigor.{Rigor}
+use Rattle.dimacs.specs.declared.Rigor.the-variants.{Strict, Lenient}
 use Rattle.dimacs.specs.declared.Opening.{Opening}
 use Rattle.dimacs.specs.declared.Opening.the-variants as opening
 use Rattle.dimacs.specs.declared.Header.{Header}
@@ -97,8 +97,8 @@ groupLimit Weighted t = largest
 groupLimit Grouped t = specified t largest
 groupLimit Weighted2022 t = largest
 
--- The limits that a header sets. The lenient mode applies none of its counts.
-abbrev pub limitsOf : Format → Mode → Header → Limits
+-- The limits that a header sets. A lenient reading applies none of its counts.
+abbrev pub limitsOf : Format → Rigor → Header → Limits
 limitsOf f Lenient h = unlimited
 limitsOf f Strict h =
     record { literals = specified (h .variables) ceiling; groups = groupLimit f (h .third); clauses = h .clauses }

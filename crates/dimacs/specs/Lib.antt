@@ -4,6 +4,7 @@ pub mod Loop
 pub mod Buffers
 pub mod Bytes
 pub mod Names
+pub mod Lined
 pub mod Tokens
 pub mod Header
 pub mod Rows

@@ -7,10 +7,12 @@ use lib.IntN.{ℤ}
 use Rattle.dimacs.specs.Loop.{Step, again, answer, loop}
 use Rattle.dimacs.specs.Bytes.{bytes}
 use Rattle.dimacs.specs.Names.{Reason, refusal, ceiling}
+use Rattle.dimacs.specs.Lined.{lined}
 use Rattle.dimacs.specs.Tokens.{unmoved, atEnd, blanks, nextLine, fixed, strictComment, endOfLine, lineEnds}
 use Rattle.dimacs.specs.Rows.{Row, ends, closes, stops, reads, row}
 use Rattle.dimacs.specs.declared.Mode.{Mode}
-use Rattle.dimacs.specs.declared.Mode.the-variants.{Strict, Lenient}
+use Rattle.dimacs.specs.declared.Rigor.{Rigor}
+use Rattle.dimacs.specs.declared.Rigor.the-variants.{Strict, Lenient}
 use Rattle.dimacs.specs.declared.Refusal.{Refusal}
 use Rattle.dimacs.specs.declared.Verdict.{Verdict}
 use Rattle.dimacs.specs.declared.Verdict.the-variants.{Yes, No, Unknown, None}
@@ -32,6 +34,10 @@ pub record Log : Type 0 where
 -- A state of reading by its four parts.
 abbrev pub logAt : ℕ → Verdict → Assignment → List ℤ → Log
 logAt at verdict assignment so = record { at = at; verdict = verdict; assignment = assignment; so = so }
+
+-- No line is read yet, and the verdict is none unless a solution line comes.
+abbrev pub logBegin : Log
+logBegin = logAt 0 None Unbegun []
 
 -- The 0 has closed the assignment.
 abbrev pub isClosed : Assignment → Bool
@@ -77,8 +83,8 @@ module _ (s : List ℕ) where
   logEnd at verdict so Begun = refusedLog (refusal s Reason.assignmentOpen at) so
   logEnd at verdict so Closed = accepted verdict so
 
-  -- A line of no permitted kind is refused, or skipped in the lenient mode.
-  abbrev pub otherLine : Mode → Log → Step Log LogAnswer
+  -- A line of no permitted kind is refused, or skipped in a lenient reading.
+  abbrev pub otherLine : Rigor → Log → Step Log LogAnswer
   otherLine Strict r = answer (refusedLog (refusal s Reason.logLineExpected (r .at)) (r .so))
   otherLine Lenient r = again (logAt (nextLine s (r .at)) (r .verdict) (r .assignment) (r .so))
 
@@ -87,9 +93,9 @@ module _ (s : List ℕ) (room : ℕ) where
   unfoldable pub valueLine : ℕ → Log → Step Log LogAnswer
   valueLine at r = valuesRead s (r .verdict) (row s ceiling room (reads (blanks s at) (r .so)))
 
-module _ (s : List ℕ) (mode : Mode) (room : ℕ) where
+module _ (s : List ℕ) (rigor : Rigor) (room : ℕ) where
   -- A comment is skipped. Else in this order: `v ` while no 0 has closed the assignment; `s ` if no solution line came; the end of
-  -- the text; any line in the lenient mode.
+  -- the text; any line in a lenient reading.
   unfoldable pub logLine : Log → Step Log LogAnswer
   logLine r =
       let at = r .at in
@@ -99,7 +105,7 @@ module _ (s : List ℕ) (mode : Mode) (room : ℕ) where
       cond (unmoved at c)
       (cond (isClosed (r .assignment) || unmoved at v)
       (cond (isSaid (r .verdict) || unmoved at e)
-      (cond (atEnd s at) (answer (logEnd s at (r .verdict) (r .so) (r .assignment))) (otherLine s mode r))
+      (cond (atEnd s at) (answer (logEnd s at (r .verdict) (r .so) (r .assignment))) (otherLine s rigor r))
       (solutionLine s e r))
       (valueLine s room v r))
       (again (logAt c (r .verdict) (r .assignment) (r .so)))
@@ -108,6 +114,6 @@ module _ (s : List ℕ) (mode : Mode) (room : ℕ) where
   unfoldable pub logFrom : Log → LogAnswer
   logFrom = loop logLine (accepted None []) (suc (length s))
 
-  -- The log s, read in a mode with room for so many literals in all. Its verdict is none unless a solution line comes.
-  unfoldable pub log : LogAnswer
-  log = logFrom (logAt 0 None Unbegun [])
+-- The log s, read in a mode with room for so many literals in all.
+unfoldable pub log : List ℕ → Mode → ℕ → LogAnswer
+log s m room = logFrom (lined (m .ends) s) (m .rigor) room logBegin

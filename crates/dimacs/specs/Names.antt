@@ -6,7 +6,10 @@ use lib.Dec.{eqb}
 use Rattle.dimacs.specs.declared.Format.{Format}
 use Rattle.dimacs.specs.declared.Format.the-variants.{Plain, Weighted, Grouped, Weighted2022}
 use Rattle.dimacs.specs.declared.Mode.{Mode}
-use Rattle.dimacs.specs.declared.Mode.the-variants.{Strict, Lenient}
+use Rattle.dimacs.specs.declared.Rigor.{Rigor}
+use Rattle.dimacs.specs.declared.Rigor.the-variants.{Strict, Lenient}
+use Rattle.dimacs.specs.declared.Ends.{Ends}
+use Rattle.dimacs.specs.declared.Ends.the-variants.{LineFeed, AlsoReturn}
 use Rattle.dimacs.specs.declared.Kind.{Kind}
 use Rattle.dimacs.specs.declared.Kind.the-variants.{Unknown, Clauses, Log}
 use Rattle.dimacs.specs.declared.Refusal.{Refusal}
@@ -39,6 +42,10 @@ logFormat = 3
 abbrev pub places : ℕ
 places = 32
 
+-- A mode by its two choices.
+abbrev pub inMode : Rigor → Ends → Mode
+inMode rigor rule = record { rigor = rigor; ends = rule }
+
 -- What the number of a format names in a mode.
 unfoldable pub kindIn : Mode → ℕ → Kind
 kindIn m f =
@@ -47,7 +54,9 @@ kindIn m f =
 
 -- What the numbers of a format and a mode name.
 unfoldable pub kindOf : ℕ → ℕ → Kind
-kindOf f m = cond (eqb m 0) (kindIn Strict f) (cond (eqb m 1) (kindIn Lenient f) Unknown)
+kindOf f m =
+    cond (eqb m 0) (kindIn (inMode Strict LineFeed) f) (cond (eqb m 1) (kindIn (inMode Lenient LineFeed) f)
+    (cond (eqb m 2) (kindIn (inMode Strict AlsoReturn) f) (cond (eqb m 3) (kindIn (inMode Lenient AlsoReturn) f) Unknown)))
 
 -- Why something is refused.
 pub data Reason : Type 0 where

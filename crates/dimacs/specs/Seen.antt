@@ -6,6 +6,7 @@ use mathlib.Core.Path.{_≡_}
 use lib.Dec.{eqb}
 use lib.ListN.{length, take}
 use Rattle.dimacs.specs.Bytes.{LF, isNotStop}
+use Rattle.dimacs.specs.Lined.{lined}
 use Rattle.dimacs.specs.Tokens.{past, byteAt}
 use Rattle.dimacs.specs.Header.{openingOf, unlimited, limitsOf}
 use Rattle.dimacs.specs.Clauses.{Answer, clause, ended, refused, Answered}
@@ -13,6 +14,9 @@ use Rattle.dimacs.specs.Texts.{answerAt, settled, begin, Text}
 use Rattle.dimacs.specs.Logs.{LogAnswer, accepted, refusedLog}
 use Rattle.dimacs.specs.declared.Format.{Format}
 use Rattle.dimacs.specs.declared.Mode.{Mode}
+use Rattle.dimacs.specs.declared.Rigor.{Rigor}
+use Rattle.dimacs.specs.declared.Ends.{Ends}
+use Rattle.dimacs.specs.declared.Ends.the-variants.{LineFeed, AlsoReturn}
 use Rattle.dimacs.specs.declared.Limits.{Limits}
 use Rattle.dimacs.specs.declared.Progress.{Progress}
 use Rattle.dimacs.specs.declared.Opening.{Opening}
@@ -54,14 +58,19 @@ module _ (s : List ℕ) (f : Format) (limits : Limits) (room : ℕ) where
   answersSeen (suc k) p = let a = answerAt s f limits room p in max (answerSeen s a) (answersSeen k (settled p a))
 
 -- How many bytes settle an opening and the k answers after it.
-abbrev pub textSeenBy : Format → Mode → ℕ → ℕ → List ℕ → Opening → ℕ
-textSeenBy f m room k s (opening.Header h at) = max (openingSeen s (opening.Header h at)) (answersSeen s f (limitsOf f m h) room k (begin at))
-textSeenBy f m room k s (opening.NoHeader at) = max (openingSeen s (opening.NoHeader at)) (answersSeen s f unlimited room k (begin at))
-textSeenBy f m room k s (opening.Refused r) = openingSeen s (opening.Refused r)
+abbrev pub textSeenBy : Format → Rigor → ℕ → ℕ → List ℕ → Opening → ℕ
+textSeenBy f rigor room k s (opening.Header h at) = max (openingSeen s (opening.Header h at)) (answersSeen s f (limitsOf f rigor h) room k (begin at))
+textSeenBy f rigor room k s (opening.NoHeader at) = max (openingSeen s (opening.NoHeader at)) (answersSeen s f unlimited room k (begin at))
+textSeenBy f rigor room k s (opening.Refused r) = openingSeen s (opening.Refused r)
+
+-- So many bytes of a text as it is read hang on so many of the text: where a CR alone ends a line, the byte after it tells whether it is alone.
+abbrev pub withNext : Ends → ℕ → ℕ
+withNext LineFeed n = n
+withNext AlsoReturn n = n + 1
 
 -- How many bytes settle how a text opens and its first k answers.
 abbrev pub textSeen : Format → Mode → ℕ → ℕ → List ℕ → ℕ
-textSeen f m room k s = textSeenBy f m room k s (openingOf s f)
+textSeen f m room k s = let read = lined (m .ends) s in withNext (m .ends) (textSeenBy f (m .rigor) room k read (openingOf read f))
 
 -- Two readings open in the same way and have the same first k answers.
 pub record SameFirst (k : ℕ) (x y : Text) : Type 0 where

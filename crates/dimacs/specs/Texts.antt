@@ -6,12 +6,14 @@ use lib.ListN.{length}
 use lib.Dec.{ltb, leb, eqb}
 use Rattle.dimacs.specs.Loop.{Turn, on, last, said}
 use Rattle.dimacs.specs.Names.{largest}
+use Rattle.dimacs.specs.Lined.{lined}
 use Rattle.dimacs.specs.Tokens.{blanks, lines}
 use Rattle.dimacs.specs.Header.{openingOf, unlimited, limitsOf}
 use Rattle.dimacs.specs.Clauses.{Answer, clause, ended, refused, Answered, says, instead, absent, clauseAt}
 use Rattle.dimacs.specs.declared.Format.{Format}
 use Rattle.dimacs.specs.declared.Limits.{Limits}
 use Rattle.dimacs.specs.declared.Mode.{Mode}
+use Rattle.dimacs.specs.declared.Rigor.{Rigor}
 use Rattle.dimacs.specs.declared.Opening.{Opening}
 use Rattle.dimacs.specs.declared.Opening.the-variants as opening
 use Rattle.dimacs.specs.declared.Absence.the-variants.{MayEnd, NoClause}
@@ -89,13 +91,13 @@ pub record Text : Type 0 where
   pub answers : List Answer
 
 -- What is read of a text, by its opening.
-abbrev pub textBy : Format → Mode → ℕ → List ℕ → Opening → Text
-textBy f m room s (opening.Header h at) =
-    record { opened = opening.Header h at; answers = answersFrom s f (limitsOf f m h) room (begin at) }
-textBy f m room s (opening.NoHeader at) =
+abbrev pub textBy : Format → Rigor → ℕ → List ℕ → Opening → Text
+textBy f rigor room s (opening.Header h at) =
+    record { opened = opening.Header h at; answers = answersFrom s f (limitsOf f rigor h) room (begin at) }
+textBy f rigor room s (opening.NoHeader at) =
     record { opened = opening.NoHeader at; answers = answersFrom s f unlimited room (begin at) }
-textBy f m room s (opening.Refused r) = record { opened = opening.Refused r; answers = [] }
+textBy f rigor room s (opening.Refused r) = record { opened = opening.Refused r; answers = [] }
 
 -- The text s, read in a format and a mode with room for so many literals in a clause.
 unfoldable pub text : Format → Mode → ℕ → List ℕ → Text
-text f m room s = textBy f m room s (openingOf s f)
+text f m room s = let read = lined (m .ends) s in textBy f (m .rigor) room read (openingOf read f)

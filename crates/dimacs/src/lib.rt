@@ -2,7 +2,8 @@
 // The written definition in specs/ is over these same types, so that a contract equates an answer with a definition.
 ghost use mathlib.Core.Path.{_≡_};
 ghost use lib.IntN.{natAbs};
-ghost use Rattle.dimacs.specs.Names.{kindIn, kindOf, numbered, callNumbered};
+ghost use Rattle.dimacs.specs.Names.{inMode, kindIn, kindOf, numbered, callNumbered};
+ghost use Rattle.dimacs.specs.Lined.{lined};
 ghost use Rattle.dimacs.specs.Header.{hasHeader, hasThird};
 ghost use Rattle.dimacs.specs.Clauses.{hasHard};
 
@@ -32,10 +33,22 @@ pub enum Format {
 // The number that names a log.
 pub const LOG_FORMAT: u8 = 3;
 
-// The lenient mode applies no count of a header, and passes over log lines of no permitted kind.
-pub enum Mode {
+// A lenient reading applies no count of a header, and passes over log lines of no permitted kind.
+pub enum Rigor {
     Strict,
     Lenient,
+}
+
+// What ends a line: LF and CR LF; or these, and a CR that no LF follows.
+pub enum Ends {
+    LineFeed,
+    AlsoReturn,
+}
+
+// How a text is read.
+pub struct Mode {
+    pub rigor: Rigor,
+    pub ends: Ends,
 }
 
 // What the numbers of a format and a mode name: nothing, a text of clauses, or a log.
@@ -45,9 +58,10 @@ pub enum Kind {
     Log(Mode),
 }
 
-fn kind_in(format: u8, mode: Mode) -> Kind
-    ensures { λ r. ⌜ r ≡ kindIn mode format ⌝ }
+fn kind_in(format: u8, rigor: Rigor, ends: Ends) -> Kind
+    ensures { λ r. ⌜ r ≡ kindIn (inMode rigor ends) format ⌝ }
 {
+    let mode = Mode { rigor, ends };
     match format {
         0 => Kind::Clauses(Format::Plain, mode),
         1 => Kind::Clauses(Format::Weighted, mode),
@@ -63,8 +77,10 @@ pub fn kind_of(format: u8, mode: u8) -> Kind
     ensures { λ r. ⌜ r ≡ kindOf format mode ⌝ }
 {
     match mode {
-        0 => kind_in(format, Mode::Strict),
-        1 => kind_in(format, Mode::Lenient),
+        0 => kind_in(format, Rigor::Strict, Ends::LineFeed),
+        1 => kind_in(format, Rigor::Lenient, Ends::LineFeed),
+        2 => kind_in(format, Rigor::Strict, Ends::AlsoReturn),
+        3 => kind_in(format, Rigor::Lenient, Ends::AlsoReturn),
         _ => Kind::Unknown,
     }
 }
@@ -176,8 +192,8 @@ pub struct Refusal {
 }
 
 // The refusal of a text at a place in it. Every refusal of a text is made here.
-pub fn refuse(text: &[u8], number: u8, place: usize) -> Refusal
-    ensures { λ r. ⌜ r ≡ numbered (now (text .entry)) number place ⌝ }
+pub fn refuse(text: &[u8], ends: Ends, number: u8, place: usize) -> Refusal
+    ensures { λ r. ⌜ r ≡ numbered (lined ends (now (text .entry))) number place ⌝ }
 {
     Refusal { number, place }
 }

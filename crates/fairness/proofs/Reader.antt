@@ -8,6 +8,7 @@ use native.Mathlib.Omega.{arith}
 use borrow.Author.Tests.{le-leb, leb-true}
 use lib.ListN.{length, take, drop, length-take, length-drop}
 use Rattle.dimacs.specs.Names.{kindOf, ownRoom}
+use Rattle.dimacs.specs.Lined.{lined}
 use Rattle.dimacs.specs.Header.{openingOf, unlimited, limitsOf}
 use Rattle.dimacs.specs.Clauses as def
 use Rattle.dimacs.specs.Texts as texts
@@ -15,6 +16,7 @@ use Rattle.dimacs.specs.declared.Format.{Format}
 use Rattle.dimacs.specs.declared.Kind.{Kind}
 use Rattle.dimacs.specs.declared.Kind.the-variants.{Unknown, Clauses, Log}
 use Rattle.dimacs.specs.declared.Mode.{Mode}
+use Rattle.dimacs.specs.declared.Ends.{Ends}
 use Rattle.dimacs.specs.declared.Limits.{Limits}
 use Rattle.dimacs.specs.declared.Progress.{Progress}
 use Rattle.dimacs.specs.declared.Opening.{Opening}
@@ -147,43 +149,47 @@ module _ (bytes : List ℕ) where
       let s : part j (e .area) ≡ bytes = rw (o .0, o .1) (h .same) in
       rw (w, s)
 
-module _ (bytes : List ℕ) (k start size : ℕ) (f : Format) where
+module _ (bytes : List ℕ) (k start size : ℕ) (f : Format) (ends : Ends) where
   -- The job between two turns.
   abbrev between : Limits → Progress → Job
-  between limits c = jobOf k start size (stage.Reading (cursorOf f limits c))
+  between limits c = jobOf k start size (stage.Reading (cursorOf f ends limits c))
 
   -- What it is told from a cursor on.
   whole-from : (limits : Limits) (n : ℕ) (c : Progress) → toCome bytes (c .place) < n
-      → Whole (solo bytes) (between limits c) (map answering (texts.answersFrom bytes f limits ownRoom c))
+      → Whole (solo bytes) (between limits c) (map answering (texts.answersFrom (lined ends bytes) f limits ownRoom c))
   unfolding serving texts.turn
   whole-from limits zero c h = absurd (omega arith)
   whole-from limits (suc n) c h =
-      let d = texts.answerAt bytes f limits ownRoom c in
-      let x = cursorOf f limits c in
-      rw (answers-step bytes f limits ownRoom c)
+      let d = texts.answerAt (lined ends bytes) f limits ownRoom c in
+      let x = cursorOf f ends limits c in
+      rw (answers-step (lined ends bytes) f limits ownRoom c)
       (told (d .place) (d .answer) refl (call-leads bytes ownRoom x) (λ y l. whole-from limits n y l))
     where
       told : (e : ℕ) (a : def.Answer)
-          → solo bytes (between limits c) ≡ serves (answering a) (goesBy (between limits c) (nextGoes (cursorAfter (cursorOf f limits c) e (nextOf a)) (nextOf a)))
-          → CallLeads bytes ownRoom (cursorOf f limits c) (cursorAfter (cursorOf f limits c) e (nextOf a)) (nextOf a)
-          → ((y : Progress) → toCome bytes (y .place) < n → Whole (solo bytes) (between limits y) (map answering (texts.answersFrom bytes f limits ownRoom y)))
-          → Whole (solo bytes) (between limits c) (map answering (andOn (texts.turnBy (texts.settledBy (c .count) e (texts.finalOf a)) a) (texts.answersFrom bytes f limits ownRoom)))
+          → solo bytes (between limits c) ≡ serves (answering a) (goesBy (between limits c) (nextGoes (cursorAfter (cursorOf f ends limits c) e (nextOf a)) (nextOf a)))
+          → CallLeads bytes ownRoom (cursorOf f ends limits c) (cursorAfter (cursorOf f ends limits c) e (nextOf a)) (nextOf a)
+          → ((y : Progress) → toCome bytes (y .place) < n → Whole (solo bytes) (between limits y) (map answering (texts.answersFrom (lined ends bytes) f limits ownRoom y)))
+          → Whole (solo bytes) (between limits c) (map answering (andOn (texts.turnBy (texts.settledBy (c .count) e (texts.finalOf a)) a) (texts.answersFrom (lined ends bytes) f limits ownRoom)))
       told e (def.clause extra so) q l ih = whole-more (solo bytes) q (ih (texts.settledBy (c .count) e (texts.finalOf (def.clause extra so))) (omega (arith, l .1)))
       told e def.ended q l ih = last q
       told e (def.refused r so) q l ih = last q
 
+module _ (bytes : List ℕ) (k start size : ℕ) (f : Format) where
   pub whole : (m : Mode) → Whole (solo bytes) (jobOf k start size (stage.Fresh f m)) (saidAlone f m bytes)
   unfolding serving openedAs texts.text
-  whole m = go (openingOf bytes f) refl
+  whole m = go (openingOf read f) refl
     where
+      read : List ℕ
+      read = lined (m .ends) bytes
+
       job : Job
       job = jobOf k start size (stage.Fresh f m)
 
-      from : (limits : Limits) (p : ℕ) → Whole (solo bytes) (between limits (texts.begin p)) (map answering (texts.answersFrom bytes f limits ownRoom (texts.begin p)))
-      from limits p = whole-from limits (suc (toCome bytes p)) (texts.begin p) (omega arith)
+      from : (limits : Limits) (p : ℕ) → Whole (solo bytes) (between bytes k start size f (m .ends) limits (texts.begin p)) (map answering (texts.answersFrom read f limits ownRoom (texts.begin p)))
+      from limits p = whole-from bytes k start size f (m .ends) limits (suc (toCome bytes p)) (texts.begin p) (omega arith)
 
       go : (o : Opening) → solo bytes job ≡ serves (opening o) (goesBy job (openingGoes (openedBy f m o) o))
-          → Whole (solo bytes) job (opening (texts.textBy f m ownRoom bytes o .opened) ∷ map answering (texts.textBy f m ownRoom bytes o .answers))
-      go (how.Header h p) q = whole-more (solo bytes) q (from (limitsOf f m h) p)
+          → Whole (solo bytes) job (opening (texts.textBy f (m .rigor) ownRoom read o .opened) ∷ map answering (texts.textBy f (m .rigor) ownRoom read o .answers))
+      go (how.Header h p) q = whole-more (solo bytes) q (from (limitsOf f (m .rigor) h) p)
       go (how.NoHeader p) q = whole-more (solo bytes) q (from unlimited p)
       go (how.Refused r) q = last q

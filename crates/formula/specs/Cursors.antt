@@ -6,7 +6,8 @@ use mathlib.Core.Path.{_≡_}
 use lib.Dec.{eqb, leb}
 use lib.ListN.{length}
 use lib.IntN.{ℤ}
-use Rattle.dimacs.specs.Names.{Reason, callRefusal, kindOf}
+use Rattle.dimacs.specs.Names.{Reason, callRefusal, inMode, kindOf}
+use Rattle.dimacs.specs.Lined.{lined}
 use Rattle.dimacs.specs.Header.{openingOf}
 use Rattle.dimacs.specs.Buffers.{laid}
 use Rattle.dimacs.specs.Clauses as def
@@ -14,6 +15,9 @@ use Rattle.dimacs.specs.Texts as texts
 use Rattle.dimacs.specs.declared.Format.{Format}
 use Rattle.dimacs.specs.declared.Format.the-variants.{Plain}
 use Rattle.dimacs.specs.declared.Mode.{Mode}
+use Rattle.dimacs.specs.declared.Rigor.the-variants.{Strict}
+use Rattle.dimacs.specs.declared.Ends.{Ends}
+use Rattle.dimacs.specs.declared.Ends.the-variants.{LineFeed}
 use Rattle.dimacs.specs.declared.Limits.{Limits}
 use Rattle.dimacs.specs.declared.Refusal.{Refusal}
 use Rattle.dimacs.specs.declared.Opening.{Opening}
@@ -35,8 +39,8 @@ use Rattle.formula.specs.declared.Opened.{Opened}
 use Rattle.formula.specs.declared.Stepped.{Stepped}
 
 -- A cursor by its parts.
-abbrev pub cursorOf : Format → Limits → Progress → Cursor
-cursorOf f limits p = record { progress = p; limits = limits; format = f }
+abbrev pub cursorOf : Format → Ends → Limits → Progress → Cursor
+cursorOf f rule limits p = record { progress = p; limits = limits; format = f; ends = rule }
 
 -- How far a text is read where its clauses begin, by its opening. After a refused header the refusal is repeated.
 abbrev pub begunBy : Opening → Progress
@@ -46,17 +50,17 @@ begunBy (opening.Refused r) = texts.progress (r .place) 0 (final.Refused r)
 
 -- The cursor with which a text's clauses begin, by its opening.
 abbrev pub openedBy : Format → Mode → Opening → Cursor
-openedBy f m o = cursorOf f (limitsAfter f m o) (begunBy o)
+openedBy f m o = cursorOf f (m .ends) (limitsAfter f (m .rigor) o) (begunBy o)
 
 -- A text opened in a format and a mode.
 unfoldable pub openedAs : Format → Mode → List ℕ → Opened
-openedAs f m s = record { opening = openingOf s f; cursor = openedBy f m (openingOf s f) }
+openedAs f m s = let o = openingOf (lined (m .ends) s) f in record { opening = o; cursor = openedBy f m o }
 
 -- Refusal 26.
 abbrev pub unknown : Opened
 unknown =
     let r : Refusal = callRefusal Reason.formatOrModeUnknown 0 in
-    record { opening = opening.Refused r; cursor = openedBy Plain Mode.Strict (opening.Refused r) }
+    record { opening = opening.Refused r; cursor = openedBy Plain (inMode Strict LineFeed) (opening.Refused r) }
 
 -- A text opened by what its numbers name. A log is no text of clauses.
 abbrev pub openedKind : Kind → List ℕ → Opened
@@ -78,7 +82,7 @@ absenceOf most = cond (eqb most 0) MayEnd NoClause
 
 -- What is answered from a cursor, with room for so many literals.
 abbrev pub answerFrom : List ℕ → ℕ → Cursor → def.Answered
-answerFrom s room c = texts.answerAt s (c .format) (c .limits) room (c .progress)
+answerFrom s room c = texts.answerAt (lined (c .ends) s) (c .format) (c .limits) room (c .progress)
 
 -- The end and a refusal are final.
 abbrev pub lastOf : Next → Final
@@ -88,7 +92,7 @@ lastOf (next.Refused r n) = final.Refused r
 
 -- The cursor after an answer at a place.
 abbrev pub cursorAfter : Cursor → ℕ → Next → Cursor
-cursorAfter c at a = cursorOf (c .format) (c .limits) (texts.settledBy (c .progress .count) at (lastOf a))
+cursorAfter c at a = cursorOf (c .format) (c .ends) (c .limits) (texts.settledBy (c .progress .count) at (lastOf a))
 
 -- An answer of the code, and the cursor after it.
 abbrev pub settledAs : Cursor → Answered → Stepped

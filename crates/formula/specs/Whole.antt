@@ -5,6 +5,7 @@ use lib.ListN.{length}
 use lib.IntN.{ℤ}
 use Rattle.dimacs.specs.Loop.{Turn, on, last, said}
 use Rattle.dimacs.specs.Names.{ownRoom}
+use Rattle.dimacs.specs.Lined.{lined}
 use Rattle.dimacs.specs.Clauses as def
 use Rattle.dimacs.specs.Texts as texts
 use Rattle.dimacs.specs.declared.Format.{Format}
@@ -17,7 +18,6 @@ use Rattle.clause.specs.Answers.{nextOf, leftBy}
 use Rattle.clause.specs.declared.Next.{Next}
 use Rattle.clause.specs.declared.Next.the-variants as next
 use Rattle.formula.specs.declared.Cursor.{Cursor}
-use Rattle.formula.specs.declared.Stepped.{Stepped}
 use Rattle.formula.specs.declared.Outcome.{Outcome}
 use Rattle.formula.specs.declared.Outcome.the-variants as outcome
 use Rattle.formula.specs.Cursors.{answerFrom, stepOf}
@@ -41,7 +41,7 @@ outcomeIn f m s = let t = texts.text f m ownRoom s in outcomeOfText (t .opened) 
 
 -- What a text comes to from a cursor on.
 abbrev pub outcomeAt : List ℕ → ℕ → Cursor → Final → Outcome
-outcomeAt s room c final.Open = outcomeBy (texts.answersFrom s (c .format) (c .limits) room (texts.progress (c .progress .place) (c .progress .count) final.Open))
+outcomeAt s room c final.Open = outcomeBy (texts.answersFrom (lined (c .ends) s) (c .format) (c .limits) room (texts.progress (c .progress .place) (c .progress .count) final.Open))
 outcomeAt s room c final.Ended = outcome.Read
 outcomeAt s room c (final.Refused r) = outcome.Refused r
 

@@ -1,16 +1,19 @@
-// Texts of clauses in each format, read clause by clause, strict or lenient.
+// Texts of clauses in each format, read clause by clause in a mode.
 //
 // `open` answers how the text opens, and a cursor. Each `next_clause` answers a clause, the end or a refusal, and the cursor to go on with.
 ghost use mathlib.Core.Path.{_≡_};
 ghost use lib.ListN.{length};
 ghost use Rattle.dimacs.specs.Names.{ownRoom};
+ghost use Rattle.dimacs.specs.Lined.{lined};
 ghost use Rattle.dimacs.specs.Texts.{progress, nextClause, oneMore, settledBy};
+ghost use Rattle.token.specs.Words.{WordAt};
 ghost use Rattle.clause.specs.Answers.{Answers};
 ghost use Rattle.formula.specs.Cursors.{cursorOf, openedAs, opened, unknown, answerFrom, reached, absenceOf, lastOf, settledAs, Steps};
 ghost use Rattle.formula.specs.Whole.{outcomeFrom, outcomeIn};
 use clause::Answered;
 use clause::Next;
 use dimacs::Absence;
+use dimacs::Ends;
 use dimacs::FORMAT_OR_MODE_UNKNOWN;
 use dimacs::Final;
 use dimacs::Format;
@@ -25,11 +28,12 @@ use dimacs::Refusal;
 use dimacs::kind_of;
 use dimacs::refuse_call;
 
-// Where a text is read: how far it is read, the limits of its clauses, and its format.
+// Where a text is read: how far it is read, the limits of its clauses, its format, and what ends its lines.
 pub struct Cursor {
     pub progress: Progress,
     pub limits: Limits,
     pub format: Format,
+    pub ends: Ends,
 }
 
 // How a text opens, and the cursor with which its clauses begin.
@@ -45,8 +49,8 @@ pub struct Stepped {
 }
 
 // The cursor of a text of which no clause is read.
-fn begin(format: Format, limits: Limits, place: usize, last: Final) -> Cursor
-    ensures { λ r. ⌜ r ≡ cursorOf format limits (progress place 0 last) ⌝ }
+fn begin(format: Format, ends: Ends, limits: Limits, place: usize, last: Final) -> Cursor
+    ensures { λ r. ⌜ r ≡ cursorOf format ends limits (progress place 0 last) ⌝ }
 {
     Cursor {
         progress: Progress {
@@ -56,6 +60,7 @@ fn begin(format: Format, limits: Limits, place: usize, last: Final) -> Cursor
         },
         limits,
         format,
+        ends,
     }
 }
 
@@ -66,18 +71,19 @@ pub fn open_as(text: &[u8], format: Format, mode: Mode) -> Opened
     let headed = header::parse_header(text, format, mode);
     let opening = headed.opening;
     let limits = headed.limits;
+    let ends = mode.ends;
     match opening {
         Opening::Header(_, place) => Opened {
             opening,
-            cursor: begin(format, limits, place, Final::Open),
+            cursor: begin(format, ends, limits, place, Final::Open),
         },
         Opening::NoHeader(place) => Opened {
             opening,
-            cursor: begin(format, limits, place, Final::Open),
+            cursor: begin(format, ends, limits, place, Final::Open),
         },
         Opening::Refused(refusal) => Opened {
             opening,
-            cursor: begin(format, limits, refusal.place, Final::Refused(refusal)),
+            cursor: begin(format, ends, limits, refusal.place, Final::Refused(refusal)),
         },
     }
 }
@@ -92,6 +98,7 @@ fn opened_unknown() -> Opened
         opening: Opening::Refused(refusal),
         cursor: begin(
             Format::Plain,
+            Ends::LineFeed,
             limits,
             refusal.place,
             Final::Refused(refusal),
@@ -169,17 +176,22 @@ fn settled(count: u64, place: usize, last: Final) -> Progress
 impl Cursor {
     // The next answer while there is no final one.
     fn look(self, text: &[u8], lits: &mut [i32]) -> Answered
-        ensures { λ r. ⌜ Answers (nextClause (now (text .entry)) (self .format) (self .limits) (length (now (lits .entry))) (self .progress .count) (self .progress .place)) (now (lits .entry)) (now (lits .exit)) r ⌝ }
+        ensures { λ r. ⌜ Answers (nextClause (lined (self .ends) (now (text .entry))) (self .format) (self .limits) (length (now (lits .entry))) (self .progress .count) (self .progress .place)) (now (lits .entry)) (now (lits .exit)) r ⌝ }
     {
         let format = self.format;
+        let ends = self.ends;
         let limits = self.limits;
         let progress = self.progress;
         let most = limits.clauses;
-        let at = token::comments_and_newlines(text, token::skip_whitespace(text, progress.place));
+        let at = token::comments_and_newlines(
+            text,
+            ends,
+            token::skip_whitespace(text, progress.place),
+        );
         if reached(most, progress.count) {
-            return clause::no_clause(text, at);
+            return clause::no_clause(text, ends, at);
         }
-        clause::clause_at(text, at, format, limits, absence_of(most), lits)
+        clause::clause_at(text, ends, at, format, limits, absence_of(most), lits)
     }
 
     // The next answer: the final one again, once there is one.
@@ -207,6 +219,7 @@ impl Cursor {
         ensures { λ r. ⌜ r ≡ settledAs self a ⌝ }
     {
         let format = self.format;
+        let ends = self.ends;
         let limits = self.limits;
         let before = self.progress;
         let answer = a.answer;
@@ -217,6 +230,7 @@ impl Cursor {
                 progress,
                 limits,
                 format,
+                ends,
             },
         }
     }
@@ -227,6 +241,15 @@ impl Cursor {
     {
         let a = self.answer(text, lits);
         self.settle(a)
+    }
+
+    // The word at the cursor's place, as a part of the text: empty at a line end or the end of the text.
+    pub fn stopped_at(self, text: &[u8]) -> &[u8]
+        ensures { λ r. ⌜ WordAt (text .entry) (self .ends) (self .progress .place) r ⌝ }
+    {
+        let ends = self.ends;
+        let progress = self.progress;
+        token::stopped_at(text, ends, progress.place)
     }
 }
 

@@ -44,4 +44,4 @@ same-name n k h =
 pub outcome-narrowed : (f m : ℕ) (s : List ℕ) → host.outcome (min f 255) (min m 255) s ≡ host.outcome f m s
 unfolding host.outcome kindOf kindIn
 outcome-narrowed f m s =
-    rw (same-name f 0 (omega arith), same-name f 1 (omega arith), same-name f 2 (omega arith), same-name f 3 (omega arith), same-name f 4 (omega arith), same-name m 0 (omega arith), same-name m 1 (omega arith))
+    rw (same-name f 0 (omega arith), same-name f 1 (omega arith), same-name f 2 (omega arith), same-name f 3 (omega arith), same-name f 4 (omega arith), same-name m 0 (omega arith), same-name m 1 (omega arith), same-name m 2 (omega arith), same-name m 3 (omega arith))

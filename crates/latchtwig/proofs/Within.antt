@@ -21,14 +21,14 @@ use Rattle.latchtwig.specs.Outcomes.{outcomeByLog, outcomeOfLog, outcome
 abbrev ToldWithin : List ℕ → Outcome → Type 0
 ToldWithin s o = placeTold s o ≤ length s
 
-answers-within : (s : List ℕ) (l : List def.Answer) → AllWithin s l → ToldWithin s (outcomeBy l)
+answers-within : (s : List ℕ) (l : List def.Answer) → AllWithin (length s) l → ToldWithin s (outcomeBy l)
 unfolding outcomeBy
 answers-within s [] k = omega arith
 answers-within s (def.clause extra so ∷ l) k = answers-within s l (k .1)
 answers-within s (def.ended ∷ l) k = omega arith
 answers-within s (def.refused r so ∷ l) k = k .0
 
-by-opening : (s : List ℕ) (o : Opening) (l : List def.Answer) → OpeningWithin s o × AllWithin s l → ToldWithin s (outcomeOfText o l)
+by-opening : (s : List ℕ) (o : Opening) (l : List def.Answer) → OpeningWithin (length s) o × AllWithin (length s) l → ToldWithin s (outcomeOfText o l)
 by-opening s (opening.Header h at) l k = answers-within s l (k .1)
 by-opening s (opening.NoHeader at) l k = answers-within s l (k .1)
 by-opening s (opening.Refused r) l k = k .0

@@ -6,5 +6,6 @@ pub mod Tokens
 pub mod Clauses
 pub mod Texts
 pub mod Headers
+pub mod Returns
 pub mod ReadBack
 pub mod Writers

@@ -7,15 +7,17 @@ use mathlib.Core.Logic.{inl, inr, ⊎-elim}
 use native.Mathlib.Omega.{arith}
 use lib.Dec.{eqb}
 use lib.ListN.{length}
-use Rattle.dimacs.specs.Names.{ceiling, largest}
-use Rattle.dimacs.specs.Header.{unlimited, groupLimit}
+use Rattle.dimacs.specs.Names.{inMode, ceiling, largest}
+use Rattle.dimacs.specs.Header.{unlimited, groupLimit, limitsOf}
 use Rattle.dimacs.specs.Clauses.{ended}
 use Rattle.dimacs.specs.Texts.{answersFrom, begin, text}
 use Rattle.dimacs.specs.Writing.{headerLine}
 use Rattle.dimacs.specs.declared.Format.{Format}
 use Rattle.dimacs.specs.declared.Format.the-variants.{Plain, Weighted, Grouped, Weighted2022}
 use Rattle.dimacs.specs.declared.Mode.{Mode}
-use Rattle.dimacs.specs.declared.Mode.the-variants.{Strict, Lenient}
+use Rattle.dimacs.specs.declared.Rigor.{Rigor}
+use Rattle.dimacs.specs.declared.Rigor.the-variants.{Strict, Lenient}
+use Rattle.dimacs.specs.declared.Ends as rule
 use Rattle.dimacs.specs.declared.Header.{Header}
 use Rattle.dimacs.specs.declared.Limits.{Limits}
 use Rattle.dimacs.proofs.Tests.{chosen}
@@ -24,6 +26,7 @@ use Rattle.read_back.proofs.Each.{each-on}
 use Rattle.read_back.proofs.Ends.{Ends, start, ends-all, ends-past, start-all, start-past}
 use Rattle.read_back.proofs.Texts.{lines-open, Counts, answers-written}
 use Rattle.read_back.proofs.Headers.{header-opens, none-opens}
+use Rattle.read_back.proofs.Returns.{written-as-is}
 
 -- The limits that apply are within the bounds.
 record Bounded (limits : Limits) : Type 0 where
@@ -33,19 +36,22 @@ record Bounded (limits : Limits) : Type 0 where
 
 bounded : (f : Format) (m : Mode) (o : Option Header) → AnyFits f o → Bounded (limitsFor f m o)
 bounded f m none k = omega arith
-bounded f Lenient (some h) k = omega arith
-bounded f Strict (some h) k =
-    record {
-      literals = chosen (λ x. x ≤ ceiling) (eqb (h .variables) 0) (λ _. omega arith) (λ _. k .variables);
-      groups = groups f (k .third);
-      clauses = k .clauses;
-    }
+bounded f m (some h) k = go (m .rigor)
   where
     groups : (f : Format) → ThirdFits f (h .third) → groupLimit f (h .third) ≤ largest
     groups Plain e = omega arith
     groups Weighted e = omega arith
     groups Weighted2022 e = omega arith
     groups Grouped e = chosen (λ x. x ≤ largest) (eqb (h .third) 0) (λ _. omega arith) (λ _. e)
+
+    go : (rigor : Rigor) → Bounded (limitsOf f rigor h)
+    go Lenient = omega arith
+    go Strict =
+        record {
+          literals = chosen (λ x. x ≤ ceiling) (eqb (h .variables) 0) (λ _. omega arith) (λ _. k .variables);
+          groups = groups f (k .third);
+          clauses = k .clauses;
+        }
 
 -- A formula by its two parts.
 abbrev formula : Option Header → List Clause → Formula
@@ -64,12 +70,12 @@ module _ (f : Format) (m : Mode) (room : ℕ) where
   unfolding text
   back none cs k =
       let s = clauseLines f cs in
-      rw (none-opens f s (lines-open f cs), answers none cs k s 0 (ends-all s) (start-all s))
+      rw (written-as-is (m .ends) f (formula none cs), none-opens f s (lines-open f cs), answers none cs k s 0 (ends-all s) (start-all s))
   back (some h) cs k =
       let t = clauseLines f cs in
       let s = headerLine f h ++ t in
       let e : start s t ≡ length (headerLine f h) = omega (arith, start-past (headerLine f h) t (ends-all s), start-all s) in
-      rw (header-opens f h (k .header) t, e, answers (some h) cs k s (length (headerLine f h)) (ends-past (headerLine f h) t (ends-all s)) e)
+      rw (written-as-is (m .ends) f (formula (some h) cs), header-opens f h (k .header) t, e, answers (some h) cs k s (length (headerLine f h)) (ends-past (headerLine f h) t (ends-all s)) e)
 
   pub read-back : (x : Formula) → Readable f m room x → ReadsBack f m room x
   read-back x k = back (x .header) (x .clauses) k
@@ -86,7 +92,7 @@ never-refused f m room x k = subst⁻¹ Unrefused (read-back f m room x k) (reco
     answered [] = (tt, tt)
     answered (c ∷ cs) = (tt, answered cs)
 
--- What can be read in the strict mode can be read in the lenient one.
+-- What can be read strictly can be read leniently.
 lenient-fits : (f : Format) (limits : Limits) → Bounded limits → (room : ℕ) (c : Clause) → ClauseFits f limits room c → ClauseFits f unlimited room c
 lenient-fits f limits b room c k =
     record { extra = extra f (k .extra); literals = each-on (λ l j. omega arith) (c .literals) (k .literals); few = k .few }
@@ -97,16 +103,16 @@ lenient-fits f limits b room c k =
     extra Weighted2022 e = e
     extra Grouped e = omega arith
 
-lenient-limits : (f : Format) (o : Option Header) → limitsFor f Lenient o ≡ unlimited
-lenient-limits f none = refl
-lenient-limits f (some h) = refl
+lenient-limits : (f : Format) (ends : rule.Ends) (o : Option Header) → limitsFor f (inMode Lenient ends) o ≡ unlimited
+lenient-limits f ends none = refl
+lenient-limits f ends (some h) = refl
 
-pub lenient : (f : Format) (room : ℕ) (x : Formula) → Readable f Strict room x → Readable f Lenient room x
-lenient f room x k =
-    let e = lenient-limits f (x .header) in
-    let b = bounded f Strict (x .header) (k .header) in
+pub lenient : (f : Format) (ends : rule.Ends) (room : ℕ) (x : Formula) → Readable f (inMode Strict ends) room x → Readable f (inMode Lenient ends) room x
+lenient f ends room x k =
+    let e = lenient-limits f ends (x .header) in
+    let b = bounded f (inMode Strict ends) (x .header) (k .header) in
     record {
       header = k .header;
       count = inl (rw e);
-      clauses = rw e (each-on (lenient-fits f (limitsFor f Strict (x .header)) b room) (x .clauses) (k .clauses));
+      clauses = rw e (each-on (lenient-fits f (limitsFor f (inMode Strict ends) (x .header)) b room) (x .clauses) (k .clauses));
     }

@@ -60,7 +60,7 @@ reading f x = record { opened = opens f (x .header); answers = map answerOf (x .
 -- The limits that apply: those of the header, if there is one and the mode applies them.
 abbrev pub limitsFor : Format → Mode → Option Header → Limits
 limitsFor f m none = unlimited
-limitsFor f m (some h) = limitsOf f m h
+limitsFor f m (some h) = limitsOf f (m .rigor) h
 
 -- A fact of each element of a list.
 abbrev pub Each : {A : Type 0} → (A → Type 0) → List A → Type 0

@@ -54,8 +54,8 @@ impl<'a> Reader<'a> {
 
     // The word the reader stopped at, as a part of its text: empty at a line end or the end of the text.
     pub fn stopped_at(self) -> &'a [u8]
-        ensures { λ r. ⌜ WordAt (self .entry .text) (self .entry .cursor .progress .place) r ⌝ }
+        ensures { λ r. ⌜ WordAt (self .entry .text) (self .entry .cursor .ends) (self .entry .cursor .progress .place) r ⌝ }
     {
-        token::stopped_at(self.text, self.cursor.progress.place)
+        self.cursor.stopped_at(self.text)
     }
 }

@@ -7,7 +7,9 @@ ghost use Rattle.formula.proofs.Runs.{CountFits};
 use clause::Next;
 use console::Taken;
 use console::stop;
+use dimacs::Ends;
 use dimacs::Format;
+use dimacs::Kind;
 use dimacs::LARGEST;
 use dimacs::LOG_FORMAT;
 use dimacs::Opening;
@@ -33,17 +35,17 @@ fn stopped_word(page: &mut [u8], at: usize, w: &[u8]) -> usize {
 }
 
 // Where a format or mode is unknown no text is at fault, and there is no word.
-fn word_of(page: &mut [u8], at: usize, text: &[u8], r: Refusal) -> usize {
+fn word_of(page: &mut [u8], at: usize, text: &[u8], ends: Ends, r: Refusal) -> usize {
     if r.number == dimacs::FORMAT_OR_MODE_UNKNOWN {
         return at;
     }
-    stopped_word(page, at, token::stopped_at(text, r.place))
+    stopped_word(page, at, token::stopped_at(text, ends, r.place))
 }
 
 // Number, place and k of a refusal, and the word it stopped at.
-fn refused(page: &mut [u8], text: &[u8], r: Refusal, count: usize) {
+fn refused(page: &mut [u8], text: &[u8], ends: Ends, r: Refusal, count: usize) {
     let past_count = lines::refused_words(page, 0, r, count, b"", b"");
-    let past_word = word_of(page, past_count, text, r);
+    let past_word = word_of(page, past_count, text, ends, r);
     let past = word(page, past_word, b"\n");
     show(page, past);
 }
@@ -52,6 +54,7 @@ fn refused(page: &mut [u8], text: &[u8], r: Refusal, count: usize) {
 fn clauses(text: &[u8], from: Cursor, lits: &mut [i32], page: &mut [u8]) {
     let mut cursor = from;
     let format = from.format;
+    let ends = from.ends;
     loop {
         let step = cursor.next_clause(text, lits);
         cursor = step.cursor;
@@ -65,13 +68,20 @@ fn clauses(text: &[u8], from: Cursor, lits: &mut [i32], page: &mut [u8]) {
                 console::print(b"end\n");
                 return;
             }
-            Next::Refused { refusal, count } => return refused(page, text, refusal, count),
+            Next::Refused { refusal, count } => return refused(page, text, ends, refusal, count),
         }
     }
 }
 
 // The first answer of a text, and whether it is a clause.
-fn first_line(page: &mut [u8], text: &[u8], format: Format, first: Next, lits: &[i32]) -> bool
+fn first_line(
+    page: &mut [u8],
+    text: &[u8],
+    ends: Ends,
+    format: Format,
+    first: Next,
+    lits: &[i32],
+) -> bool
     requires { ⌜ CountFits (length (now lits)) first ⌝ }
 {
     match first {
@@ -85,7 +95,7 @@ fn first_line(page: &mut [u8], text: &[u8], format: Format, first: Next, lits: &
             false
         }
         Next::Refused { refusal, count } => {
-            refused(page, text, refusal, count);
+            refused(page, text, ends, refusal, count);
             false
         }
     }
@@ -114,9 +124,10 @@ fn formula_lines(text: &[u8], format: u8, mode: u8, lits: &mut [i32], page: &mut
     let opened = formula::open(text, format, mode);
     let cursor = opened.cursor;
     let named = cursor.format;
+    let ends = cursor.ends;
     let past = opening_line(page, opening, named);
     show(page, past);
-    if first_line(page, text, named, answer, lits) {
+    if first_line(page, text, ends, named, answer, lits) {
         rest(text, cursor, lits, page);
     }
 }
@@ -143,10 +154,19 @@ fn accepted(page: &mut [u8], verdict: Verdict, lits: &[i32]) {
     show(page, past);
 }
 
+// What ends a log's lines in the mode of a number. A number that names no mode has no text at fault.
+fn log_ends(mode: u8) -> Ends {
+    match dimacs::kind_of(LOG_FORMAT, mode) {
+        Kind::Log(named) => named.ends,
+        Kind::Clauses(_, _) => Ends::LineFeed,
+        Kind::Unknown => Ends::LineFeed,
+    }
+}
+
 fn log_lines(text: &[u8], mode: u8, lits: &mut [i32], page: &mut [u8]) {
     match sat_solver_log::parse_log(text, mode, lits) {
         Log::Accepted { verdict, count } => accepted(page, verdict, &lits[..count]),
-        Log::Refused { refusal, count } => refused(page, text, refusal, count),
+        Log::Refused { refusal, count } => refused(page, text, log_ends(mode), refusal, count),
     }
 }
 

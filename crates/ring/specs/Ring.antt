@@ -4,9 +4,10 @@ use mathlib.Core.Bool.{true, false, cond}
 use mathlib.Core.List.{List, [], _∷_}
 use lib.ListN.{getD, set, replicate}
 use lib.Dec.{leb, ltb, eqb}
-use Rattle.dimacs.specs.Names.{places}
+use Rattle.dimacs.specs.Names.{inMode, places}
 use Rattle.dimacs.specs.declared.Format.the-variants.{Plain}
-use Rattle.dimacs.specs.declared.Mode.the-variants.{Strict}
+use Rattle.dimacs.specs.declared.Rigor.the-variants.{Strict}
+use Rattle.dimacs.specs.declared.Ends.the-variants.{LineFeed}
 use Rattle.formula.specs.declared.Cursor.{Cursor}
 use Rattle.service.specs.declared.Stage.{Stage}
 use Rattle.service.specs.declared.Stage.the-variants.{Fresh, Reading}
@@ -24,7 +25,7 @@ jobOf k start size s = record { ticket = k; start = start; length = size; stage 
 
 -- What stands in a place that no job was put in.
 abbrev pub noJob : Job
-noJob = jobOf 0 0 0 (Fresh Plain Strict)
+noJob = jobOf 0 0 0 (Fresh Plain (inMode Strict LineFeed))
 
 -- A fresh tray.
 unfoldable pub emptyTray : Tray

@@ -6,9 +6,11 @@ ghost use Prim.Native.Nat.{_-_, _≤_, _<_};
 ghost use Rattle.dimacs.specs.Names.{places};
 ghost use Rattle.ring.specs.Ring as def;
 ghost use Rattle.ring.specs.Ring.{emptyTray, howMany, waiting, frontOf, joined, goesOn, passed, ahead, closedUp, takenOut};
+use dimacs::Ends;
 use dimacs::Format;
 use dimacs::Mode;
 use dimacs::PLACES;
+use dimacs::Rigor;
 use formula::Cursor;
 use service::Goes;
 use service::Stage;
@@ -33,11 +35,15 @@ pub struct Tray {
 pub fn empty() -> Tray
     ensures { λ r. ⌜ r ≡ emptyTray ⌝ }
 {
+    let mode = Mode {
+        rigor: Rigor::Strict,
+        ends: Ends::LineFeed,
+    };
     let job = Job {
         ticket: 0,
         start: 0,
         length: 0,
-        stage: Stage::Fresh(Format::Plain, Mode::Strict),
+        stage: Stage::Fresh(Format::Plain, mode),
     };
     Tray {
         jobs: [job; PLACES],

@@ -1,8 +1,10 @@
 // A row of literals, read into a lent buffer after those that it holds.
 ghost use lib.ListN.{length, take};
+ghost use Rattle.dimacs.specs.Lined.{lined};
 ghost use Rattle.dimacs.specs.Rows.{reads, row};
 ghost use Rattle.rows.specs.Answers.{ReadsRow};
 use dimacs::BUFFER_FULL;
+use dimacs::Ends;
 use dimacs::Int;
 use dimacs::LITERAL_TOO_BIG;
 use dimacs::Refusal;
@@ -18,8 +20,8 @@ pub enum Row {
 }
 
 // The row from a place on, after `held` literals of the buffer, or after all where it has not so many.
-pub fn ints(text: &[u8], at: usize, limit: u32, held: usize, lits: &mut [i32]) -> Row
-    ensures { λ r. ⌜ ReadsRow (row (now (text .entry)) limit (length (now (lits .entry))) (reads at (take held (now (lits .entry))))) (now (lits .entry)) (now (lits .exit)) r ⌝ }
+pub fn ints(text: &[u8], ends: Ends, at: usize, limit: u32, held: usize, lits: &mut [i32]) -> Row
+    ensures { λ r. ⌜ ReadsRow (row (lined ends (now (text .entry))) limit (length (now (lits .entry))) (reads at (take held (now (lits .entry))))) (now (lits .entry)) (now (lits .exit)) r ⌝ }
 {
     let mut place = at;
     let mut count = held;
@@ -36,14 +38,14 @@ pub fn ints(text: &[u8], at: usize, limit: u32, held: usize, lits: &mut [i32]) -
             }
             Int::TooBig => {
                 return Row::Stops {
-                    refusal: refuse(text, LITERAL_TOO_BIG, place),
+                    refusal: refuse(text, ends, LITERAL_TOO_BIG, place),
                     count,
                 };
             }
             Int::Literal(v, next) => {
                 if lits.len() <= count {
                     return Row::Stops {
-                        refusal: refuse(text, BUFFER_FULL, place),
+                        refusal: refuse(text, ends, BUFFER_FULL, place),
                         count,
                     };
                 }

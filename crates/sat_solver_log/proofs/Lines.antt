@@ -11,15 +11,18 @@ use lib.IntN.{ℤ}
 use Rattle.dimacs.specs.Loop.{Step, again, answer}
 use Rattle.dimacs.specs.Bytes.{bytes}
 use Rattle.dimacs.specs.Names.{ceiling}
+use Rattle.dimacs.specs.Lined.{lined}
 use Rattle.dimacs.specs.Tokens.{unmoved, atEnd, blanks, fixed, strictComment}
 use Rattle.dimacs.specs.Rows as row
 use Rattle.dimacs.specs.Logs as def
-use Rattle.dimacs.specs.declared.Mode.{Mode}
-use Rattle.dimacs.specs.declared.Mode.the-variants.{Strict, Lenient}
+use Rattle.dimacs.specs.declared.Rigor.{Rigor}
+use Rattle.dimacs.specs.declared.Rigor.the-variants.{Strict, Lenient}
+use Rattle.dimacs.specs.declared.Ends.{Ends}
 use Rattle.dimacs.specs.declared.Assignment.{Assignment}
 use Rattle.dimacs.specs.declared.Assignment.the-variants.{Unbegun, Begun, Closed}
 use Rattle.dimacs.specs.declared.Verdict.{Verdict}
 use Rattle.dimacs.proofs.Tests.{chosen}
+use Rattle.dimacs.proofs.LinedTokens.{end-lined, fixed-lined}
 use Rattle.dimacs.proofs.Rows.{Grown, row-grows}
 use Rattle.dimacs.proofs.Buffer.{kept-unchanged, kept-in-place}
 use Rattle.log_line.specs.Answers.{logOf, logLeaves}
@@ -52,13 +55,13 @@ module _ (s : List ℕ) where
   log-end-leaves at verdict so Begun = refl
   log-end-leaves at verdict so Closed = refl
 
-  other-line-leaves : (mode : Mode) (l : def.Log) → lineLeaves (def.otherLine s mode l) ≡ l .so
+  other-line-leaves : (rigor : Rigor) (l : def.Log) → lineLeaves (def.otherLine s rigor l) ≡ l .so
   other-line-leaves Strict l = refl
   other-line-leaves Lenient l = refl
 
 -- The line that is read next.
-abbrev pub lineAt : List ℕ → Mode → List ℤ → Reading → Step def.Log def.LogAnswer
-lineAt s mode lits x = def.logLine s mode (length lits) (logStateOf x (take (x .count) lits))
+abbrev pub lineAt : List ℕ → Rigor → List ℤ → Reading → Step def.Log def.LogAnswer
+lineAt s rigor lits x = def.logLine s rigor (length lits) (logStateOf x (take (x .count) lits))
 
 -- A line that adds none leaves the buffer.
 line-adds-none : {d e : Step def.Log def.LogAnswer} {old : List ℤ} {count : ℕ} {r : Line} → count ≤ length old → d ≡ e → lineLeaves e ≡ take count old → r ≡ logLineOf e → ReadsLine d old old r
@@ -81,63 +84,74 @@ module _ (t : Bool) (v w at : ℕ) (is : v ≡ cond t at w) where
       go false e = (ne-eqb w at (λ k. h (e ∙ k)), e)
 
 -- By the places that the calls for the first bytes gave, what the call for the kind of line gives.
-module _ (s : List ℕ) (mode : Mode) (x : Reading) (old : List ℤ) (fits : x .count ≤ length old) (c : ℕ) (c-is : c ≡ strictComment s (x .place)) where
+module _ (rule : Ends) (s : List ℕ) (rigor : Rigor) (x : Reading) (old : List ℤ) (fits : x .count ≤ length old) where
+  -- The log as it is read.
+  abbrev read : List ℕ
+  read = lined rule s
+
   many : length (take (x .count) old) ≡ x .count
   many = length-take-le (x .count) old fits
 
-  comment-line-is : (c ≡ x .place → ⊥) → lineAt s mode old x ≡ again (def.logAt c (x .verdict) (x .assignment) (take (x .count) old))
-  unfolding def.logLine
-  comment-line-is h = rw (sym c-is, ne-eqb c (x .place) h)
-
-  pub comment-line : (c ≡ x .place → ⊥) → ReadsLine (lineAt s mode old x) old old (Again (record { place = c; verdict = x .verdict; assignment = x .assignment; count = x .count }))
-  comment-line h = line-adds-none fits (comment-line-is h) refl (rw many)
-
-  module _ (c-no : c ≡ x .place) (v : ℕ) (v-is : v ≡ valueStart s (x .assignment) (x .place)) where
-    value-line-is : (v ≡ x .place → ⊥) → lineAt s mode old x ≡ def.valueLine s (length old) v (logStateOf x (take (x .count) old))
+  module _ (c : ℕ) (c-is : c ≡ strictComment read (x .place)) where
+    comment-line-is : (c ≡ x .place → ⊥) → lineAt read rigor old x ≡ again (def.logAt c (x .verdict) (x .assignment) (take (x .count) old))
     unfolding def.logLine
-    value-line-is h =
-        let j = starts-so (def.isClosed (x .assignment)) v (fixed s (bytes "v ") (x .place)) (x .place) v-is h in
-        rw (sym c-is, eq-eqb c (x .place) c-no, j .0, j .1)
+    comment-line-is h = rw (sym c-is, ne-eqb c (x .place) h)
 
-    pub value-line : (v ≡ x .place → ⊥) → {new : List ℤ} {r : Line} → ReadsLine (def.valueLine s (length old) v (logStateOf x (take (x .count) old))) old new r
-        → ReadsLine (lineAt s mode old x) old new r
-    value-line h g = rw (value-line-is h) g
+    pub comment-line : (c ≡ x .place → ⊥) → ReadsLine (lineAt read rigor old x) old old (Again (record { place = c; verdict = x .verdict; assignment = x .assignment; count = x .count }))
+    comment-line h = line-adds-none fits (comment-line-is h) refl (rw many)
 
-    module _ (v-no : v ≡ x .place) (e : ℕ) (e-is : e ≡ solutionStart s (x .verdict) (x .place)) where
-      no-values : def.isClosed (x .assignment) || unmoved (x .place) (fixed s (bytes "v ") (x .place)) ≡ true
-      no-values = starts-not (def.isClosed (x .assignment)) v (fixed s (bytes "v ") (x .place)) (x .place) v-is v-no
+    module _ (c-no : c ≡ x .place) (v : ℕ) (v-is : v ≡ valueStart s (x .assignment) (x .place)) where
+      values-at : v ≡ cond (def.isClosed (x .assignment)) (x .place) (fixed read (bytes "v ") (x .place))
+      values-at = v-is ∙ ap (cond (def.isClosed (x .assignment)) (x .place)) (sym (fixed-lined rule s (bytes "v ") (x .place) refl))
 
-      solution-line-is : (e ≡ x .place → ⊥) → lineAt s mode old x ≡ def.solutionLine s e (logStateOf x (take (x .count) old))
+      value-line-is : (v ≡ x .place → ⊥) → lineAt read rigor old x ≡ def.valueLine read (length old) v (logStateOf x (take (x .count) old))
       unfolding def.logLine
-      solution-line-is h =
-          let i = starts-so (def.isSaid (x .verdict)) e (fixed s (bytes "s ") (x .place)) (x .place) e-is h in
-          rw (sym c-is, eq-eqb c (x .place) c-no, no-values, i .0, i .1)
+      value-line-is h =
+          let j = starts-so (def.isClosed (x .assignment)) v (fixed read (bytes "v ") (x .place)) (x .place) values-at h in
+          rw (sym c-is, eq-eqb c (x .place) c-no, j .0, j .1)
 
-      pub solution-line : (e ≡ x .place → ⊥) → {r : Line} → ByCount (x .count) (λ so. logLineOf (def.solutionLine s e (logStateOf x so))) r
-          → ReadsLine (lineAt s mode old x) old old r
-      solution-line h is = line-adds-none fits (solution-line-is h) (solution-line-leaves s e (logStateOf x (take (x .count) old))) (is (take (x .count) old) many)
+      pub value-line : (v ≡ x .place → ⊥) → {new : List ℤ} {r : Line} → ReadsLine (def.valueLine read (length old) v (logStateOf x (take (x .count) old))) old new r
+          → ReadsLine (lineAt read rigor old x) old new r
+      value-line h g = rw (value-line-is h) g
 
-      module _ (e-no : e ≡ x .place) where
-        no-solution : def.isSaid (x .verdict) || unmoved (x .place) (fixed s (bytes "s ") (x .place)) ≡ true
-        no-solution = starts-not (def.isSaid (x .verdict)) e (fixed s (bytes "s ") (x .place)) (x .place) e-is e-no
+      module _ (v-no : v ≡ x .place) (e : ℕ) (e-is : e ≡ solutionStart s (x .verdict) (x .place)) where
+        word-at : e ≡ cond (def.isSaid (x .verdict)) (x .place) (fixed read (bytes "s ") (x .place))
+        word-at = e-is ∙ ap (cond (def.isSaid (x .verdict)) (x .place)) (sym (fixed-lined rule s (bytes "s ") (x .place) refl))
 
-        last-line-is : atEnd s (x .place) ≡ true → lineAt s mode old x ≡ answer (def.logEnd s (x .place) (x .verdict) (take (x .count) old) (x .assignment))
+        no-values : def.isClosed (x .assignment) || unmoved (x .place) (fixed read (bytes "v ") (x .place)) ≡ true
+        no-values = starts-not (def.isClosed (x .assignment)) v (fixed read (bytes "v ") (x .place)) (x .place) values-at v-no
+
+        solution-line-is : (e ≡ x .place → ⊥) → lineAt read rigor old x ≡ def.solutionLine read e (logStateOf x (take (x .count) old))
         unfolding def.logLine
-        last-line-is t = rw (sym c-is, eq-eqb c (x .place) c-no, no-values, no-solution, t)
+        solution-line-is h =
+            let i = starts-so (def.isSaid (x .verdict)) e (fixed read (bytes "s ") (x .place)) (x .place) word-at h in
+            rw (sym c-is, eq-eqb c (x .place) c-no, no-values, i .0, i .1)
 
-        pub last-line : atEnd s (x .place) ≡ true → {a : Log}
-            → ByCount (x .count) (λ so. logOf (def.logEnd s (x .place) (x .verdict) so (x .assignment))) a → ReadsLine (lineAt s mode old x) old old (Answer a)
-        last-line t is = line-adds-none fits (last-line-is t) (log-end-leaves s (x .place) (x .verdict) (take (x .count) old) (x .assignment)) (ap Answer (is (take (x .count) old) many))
+        pub solution-line : (e ≡ x .place → ⊥) → {r : Line} → ByCount (x .count) (λ so. logLineOf (def.solutionLine read e (logStateOf x so))) r
+            → ReadsLine (lineAt read rigor old x) old old r
+        solution-line h is = line-adds-none fits (solution-line-is h) (solution-line-leaves read e (logStateOf x (take (x .count) old))) (is (take (x .count) old) many)
 
-        other-line-is : atEnd s (x .place) ≡ false → lineAt s mode old x ≡ def.otherLine s mode (logStateOf x (take (x .count) old))
-        unfolding def.logLine
-        other-line-is t = rw (sym c-is, eq-eqb c (x .place) c-no, no-values, no-solution, t)
+        module _ (e-no : e ≡ x .place) where
+          no-solution : def.isSaid (x .verdict) || unmoved (x .place) (fixed read (bytes "s ") (x .place)) ≡ true
+          no-solution = starts-not (def.isSaid (x .verdict)) e (fixed read (bytes "s ") (x .place)) (x .place) word-at e-no
 
-        pub other-line : atEnd s (x .place) ≡ false → {r : Line} → ByCount (x .count) (λ so. logLineOf (def.otherLine s mode (logStateOf x so))) r
-            → ReadsLine (lineAt s mode old x) old old r
-        other-line t is = line-adds-none fits (other-line-is t) (other-line-leaves s mode (logStateOf x (take (x .count) old))) (is (take (x .count) old) many)
+          last-line-is : atEnd s (x .place) ≡ true → lineAt read rigor old x ≡ answer (def.logEnd read (x .place) (x .verdict) (take (x .count) old) (x .assignment))
+          unfolding def.logLine
+          last-line-is t = rw (sym c-is, eq-eqb c (x .place) c-no, no-values, no-solution, end-lined rule s (x .place), t)
 
-module _ (s : List ℕ) (mode : Mode) (room : ℕ) (l : def.Log) where
+          pub last-line : atEnd s (x .place) ≡ true → {a : Log}
+              → ByCount (x .count) (λ so. logOf (def.logEnd read (x .place) (x .verdict) so (x .assignment))) a → ReadsLine (lineAt read rigor old x) old old (Answer a)
+          last-line t is = line-adds-none fits (last-line-is t) (log-end-leaves read (x .place) (x .verdict) (take (x .count) old) (x .assignment)) (ap Answer (is (take (x .count) old) many))
+
+          other-line-is : atEnd s (x .place) ≡ false → lineAt read rigor old x ≡ def.otherLine read rigor (logStateOf x (take (x .count) old))
+          unfolding def.logLine
+          other-line-is t = rw (sym c-is, eq-eqb c (x .place) c-no, no-values, no-solution, end-lined rule s (x .place), t)
+
+          pub other-line : atEnd s (x .place) ≡ false → {r : Line} → ByCount (x .count) (λ so. logLineOf (def.otherLine read rigor (logStateOf x so))) r
+              → ReadsLine (lineAt read rigor old x) old old r
+          other-line t is = line-adds-none fits (other-line-is t) (other-line-leaves read rigor (logStateOf x (take (x .count) old))) (is (take (x .count) old) many)
+
+module _ (s : List ℕ) (rigor : Rigor) (room : ℕ) (l : def.Log) where
   Grows : Step def.Log def.LogAnswer → Type 0
   Grows t = Grown room (l .so) (lineLeaves t)
 
@@ -157,7 +171,7 @@ module _ (s : List ℕ) (mode : Mode) (room : ℕ) (l : def.Log) where
       go (row.stops r so) g = g
 
   -- A line adds literals or none, and only while there is room.
-  pub log-line-grows : Grown room (l .so) (lineLeaves (def.logLine s mode room l))
+  pub log-line-grows : Grown room (l .so) (lineLeaves (def.logLine s rigor room l))
   unfolding def.logLine Grows
   log-line-grows =
       let at = l .at in
@@ -169,7 +183,7 @@ module _ (s : List ℕ) (mode : Mode) (room : ℕ) (l : def.Log) where
       (λ _. chosen Grows (def.isSaid (l .verdict) || unmoved at e)
       (λ _. chosen Grows (atEnd s at)
       (λ _. same-grows (answer (def.logEnd s at (l .verdict) (l .so) (l .assignment))) (log-end-leaves s at (l .verdict) (l .so) (l .assignment)))
-      (λ _. same-grows (def.otherLine s mode l) (other-line-leaves s mode l)))
+      (λ _. same-grows (def.otherLine s rigor l) (other-line-leaves s rigor l)))
       (λ _. same-grows (def.solutionLine s e l) (solution-line-leaves s e l)))
       (λ _. value-line-grows v))
       (λ _. same-grows (again (def.logAt c (l .verdict) (l .assignment) (l .so))) refl)

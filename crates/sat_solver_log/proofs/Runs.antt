@@ -7,7 +7,7 @@ use lib.ListN.{length, take, drop, length-append}
 use lib.IntN.{ℤ}
 use Rattle.dimacs.specs.Loop.{Step, again, answer}
 use Rattle.dimacs.specs.Logs as def
-use Rattle.dimacs.specs.declared.Mode.{Mode}
+use Rattle.dimacs.specs.declared.Rigor.{Rigor}
 use Rattle.dimacs.specs.declared.Verdict.the-variants.{None}
 use Rattle.dimacs.specs.declared.Assignment.the-variants.{Unbegun}
 use Rattle.dimacs.proofs.Loops.{after}
@@ -34,40 +34,39 @@ parses-fit {d} {old} {new} p g =
     subst (λ x. kIn x ≤ length new) (sym (p .answer) ∙ g) (rw (p .buffer, log-k-left d) (omega (arith, length-append so (drop (length so) old))))
 
 -- The literals so far stand at the laid-first of the buffer, and the log from here on is the log from the start.
-pub record LogSoFar (s : List ℕ) (mode : Mode) (old lits : List ℤ) (x : Reading) : Type 0 where
+pub record LogSoFar (s : List ℕ) (rigor : Rigor) (old lits : List ℤ) (x : Reading) : Type 0 where
   pub kept : Kept old lits (x .count)
-  pub so-far : def.log s mode (length old) ≡ def.logFrom s mode (length old) (logStateOf x (take (x .count) lits))
+  pub so-far : def.logFrom s rigor (length old) def.logBegin ≡ def.logFrom s rigor (length old) (logStateOf x (take (x .count) lits))
 
-pub log-so-far-start : (s : List ℕ) (mode : Mode) (old : List ℤ) → LogSoFar s mode old old (record { place = 0; verdict = None; assignment = Unbegun; count = 0 })
-unfolding def.log
-log-so-far-start s mode old = record { kept = kept-unchanged (omega arith); so-far = refl }
+pub log-so-far-start : (s : List ℕ) (rigor : Rigor) (old : List ℤ) → LogSoFar s rigor old old (record { place = 0; verdict = None; assignment = Unbegun; count = 0 })
+log-so-far-start s rigor old = record { kept = kept-unchanged (omega arith); so-far = refl }
 
-module _ {s : List ℕ} {mode : Mode} {old lits : List ℤ} {x : Reading} (h : LogSoFar s mode old lits x) where
-  log-so-far-step : def.log s mode (length old) ≡ after (lineAt s mode lits x) (def.logFrom s mode (length old))
-  log-so-far-step = rw (h .kept .same) (h .so-far ∙ log-step s mode (length old) (logStateOf x (take (x .count) lits)))
+module _ {s : List ℕ} {rigor : Rigor} {old lits : List ℤ} {x : Reading} (h : LogSoFar s rigor old lits x) where
+  log-so-far-step : def.logFrom s rigor (length old) def.logBegin ≡ after (lineAt s rigor lits x) (def.logFrom s rigor (length old))
+  log-so-far-step = rw (h .kept .same) (h .so-far ∙ log-step s rigor (length old) (logStateOf x (take (x .count) lits)))
 
-  log-so-far-grows : (x .count ≤ length (lineLeaves (lineAt s mode lits x))) × (length (lineLeaves (lineAt s mode lits x)) ≤ length lits)
-  log-so-far-grows = let k = h .kept .fits in omega (arith, log-line-grows s mode (length lits) (logStateOf x (take (x .count) lits)), kept-count (h .kept))
+  log-so-far-grows : (x .count ≤ length (lineLeaves (lineAt s rigor lits x))) × (length (lineLeaves (lineAt s rigor lits x)) ≤ length lits)
+  log-so-far-grows = let k = h .kept .fits in omega (arith, log-line-grows s rigor (length lits) (logStateOf x (take (x .count) lits)), kept-count (h .kept))
 
   -- On to the next line, which is further on.
-  pub log-so-far-on : {new : List ℤ} {y : Reading} → ReadsLine (lineAt s mode lits x) lits new (Again y) → LogSoFar s mode old new y × (length s - y .place < length s - x .place)
-  log-so-far-on {new} {y} g = go (lineAt s mode lits x) log-so-far-step log-so-far-grows (log-line-leads s mode (length lits) (logStateOf x (take (x .count) lits))) (g .line) (g .buffer)
+  pub log-so-far-on : {new : List ℤ} {y : Reading} → ReadsLine (lineAt s rigor lits x) lits new (Again y) → LogSoFar s rigor old new y × (length s - y .place < length s - x .place)
+  log-so-far-on {new} {y} g = go (lineAt s rigor lits x) log-so-far-step log-so-far-grows (log-line-leads s rigor (length lits) (logStateOf x (take (x .count) lits))) (g .line) (g .buffer)
     where
-      go : (t : Step def.Log def.LogAnswer) → def.log s mode (length old) ≡ after t (def.logFrom s mode (length old))
+      go : (t : Step def.Log def.LogAnswer) → def.logFrom s rigor (length old) def.logBegin ≡ after t (def.logFrom s rigor (length old))
           → (x .count ≤ length (lineLeaves t)) × (length (lineLeaves t) ≤ length lits) → LineLeads s (x .place) t → Again y ≡ logLineOf t → new ≡ laid (lineLeaves t) lits
-          → LogSoFar s mode old new y × (length s - y .place < length s - x .place)
+          → LogSoFar s rigor old new y × (length s - y .place < length s - x .place)
       go (again l) e k m a b =
           let q : readingOf l ≡ y = cc in
-          subst (λ z. LogSoFar s mode old new z × (length s - z .place < length s - x .place)) q
+          subst (λ z. LogSoFar s rigor old new z × (length s - z .place < length s - x .place)) q
           (rw b (record { kept = kept-adds (h .kept) (l .so) (k .0) (k .1); so-far = rw (laid-first (l .so) lits) e }), omega arith)
       go (answer _) e k m a b = absurd (let z : _≡_ {A = ℕ} 0 1 = cc in omega arith)
 
-  pub log-so-far-answered : {new : List ℤ} {a : Log} → ReadsLine (lineAt s mode lits x) lits new (Answer a) → Parses (def.log s mode (length old)) old new a
-  log-so-far-answered {new} {a} g = go (lineAt s mode lits x) log-so-far-step log-so-far-grows (g .line) (g .buffer)
+  pub log-so-far-answered : {new : List ℤ} {a : Log} → ReadsLine (lineAt s rigor lits x) lits new (Answer a) → Parses (def.logFrom s rigor (length old) def.logBegin) old new a
+  log-so-far-answered {new} {a} g = go (lineAt s rigor lits x) log-so-far-step log-so-far-grows (g .line) (g .buffer)
     where
-      go : (t : Step def.Log def.LogAnswer) → def.log s mode (length old) ≡ after t (def.logFrom s mode (length old))
+      go : (t : Step def.Log def.LogAnswer) → def.logFrom s rigor (length old) def.logBegin ≡ after t (def.logFrom s rigor (length old))
           → (x .count ≤ length (lineLeaves t)) × (length (lineLeaves t) ≤ length lits) → Answer a ≡ logLineOf t → new ≡ laid (lineLeaves t) lits
-          → Parses (def.log s mode (length old)) old new a
+          → Parses (def.logFrom s rigor (length old) def.logBegin) old new a
       go (again _) e k i b = absurd (let z : _≡_ {A = ℕ} 0 1 = cc in omega arith)
       go (answer d) e k i b =
           let q : a ≡ logOf d = cc in

@@ -3,6 +3,7 @@ ghost use mathlib.Core.Path.{_≡_};
 ghost use Prim.Native.Nat.{_≤_};
 ghost use lib.ListN.{length, take};
 ghost use Rattle.dimacs.specs.Names.{logFormat, kindOf};
+ghost use Rattle.dimacs.specs.Lined.{lined};
 ghost use Rattle.dimacs.specs.Logs.{isClosed, isSaid, logLine, log};
 ghost use Rattle.log_line.specs.Answers.{logOf};
 ghost use Rattle.log_line.specs.Lines.{logStateOf, ReadsLine};
@@ -70,12 +71,13 @@ fn solution_start(text: &[u8], at: usize, verdict: Verdict) -> usize
 // One line of any kind, or the end of the text.
 fn any_line(text: &[u8], mode: Mode, reading: Reading, lits: &mut [i32]) -> Line
     requires { ⌜ reading .count ≤ length (now lits) ⌝ }
-    ensures { λ r. ⌜ ReadsLine (logLine (now (text .entry)) mode (length (now (lits .entry))) (logStateOf reading (take (reading .count) (now (lits .entry))))) (now (lits .entry)) (now (lits .exit)) r ⌝ }
+    ensures { λ r. ⌜ ReadsLine (logLine (lined (mode .ends) (now (text .entry))) (mode .rigor) (length (now (lits .entry))) (logStateOf reading (take (reading .count) (now (lits .entry))))) (now (lits .entry)) (now (lits .exit)) r ⌝ }
 {
+    let ends = mode.ends;
     let at = reading.place;
     let verdict = reading.verdict;
     let assignment = reading.assignment;
-    let past = token::interactive_strict_comment(text, at);
+    let past = token::interactive_strict_comment(text, ends, at);
     if past != at {
         return Line::Again(Reading {
             place: past,
@@ -86,14 +88,14 @@ fn any_line(text: &[u8], mode: Mode, reading: Reading, lits: &mut [i32]) -> Line
     }
     let values = value_start(text, at, assignment);
     if values != at {
-        return value_line(text, values, reading, lits);
+        return value_line(text, ends, values, reading, lits);
     }
     let word = solution_start(text, at, verdict);
     if word != at {
-        return solution_line(text, word, reading);
+        return solution_line(text, ends, word, reading);
     }
     if token::eof(text, at) {
-        return Line::Answer(log_end(text, reading));
+        return Line::Answer(log_end(text, ends, reading));
     }
     other_line(text, mode, reading)
 }

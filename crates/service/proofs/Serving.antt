@@ -8,6 +8,7 @@ use borrow.Author.Tests.{le-leb, lt-leb, leb-true, leb-false}
 use lib.Dec.{leb}
 use lib.ListN.{length, take, drop}
 use lib.IntN.{ℤ}
+use Rattle.dimacs.specs.Lined.{lined}
 use Rattle.dimacs.specs.Clauses as def
 use Rattle.dimacs.specs.declared.Format.{Format}
 use Rattle.dimacs.specs.declared.Mode.{Mode}
@@ -62,7 +63,7 @@ reading-served s old new e p q = rw e (record { answer = q ∙ ap stepServed (p 
 pub serving-fits : (s : List ℕ) (room : ℕ) (x : Stage) → length (literalsIn (serving s room x .said)) ≤ room
 unfolding serving
 serving-fits s room (stage.Fresh f m) = omega arith
-serving-fits s room (stage.Reading c) = go (answerFrom s room c .answer) (answer-fits s (c .format) (c .limits) room (c .progress))
+serving-fits s room (stage.Reading c) = go (answerFrom s room c .answer) (answer-fits (lined (c .ends) s) (c .format) (c .limits) room (c .progress))
   where
     go : (a : def.Answer) → AnswerFits room a → length (leftBy a) ≤ room
     go (def.clause extra so) h = h

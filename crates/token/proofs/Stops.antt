@@ -4,17 +4,21 @@ use mathlib.Core.Bool.{Bool, true, false, not}
 use mathlib.Core.List.{List, [], _∷_}
 use mathlib.Core.Path.{_≡_, refl, ap, sym, _∙_}
 use native.Mathlib.Omega.{arith}
-use borrow.Author.Tests.{eq-eqb, ne-eqb, lt-leb}
+use borrow.Author.Tests.{ne-eqb, lt-leb}
 use lib.Dec.{eqb}
 use lib.ListN.{length, getD, take, drop, drop-of-length-le}
 use lib.Seq.{take-nil}
 use denote.Ref.{RefT, ptr, now}
 use Rattle.dimacs.specs.Bytes.{isNotStop}
 use Rattle.dimacs.specs.Names.{longestWord}
+use Rattle.dimacs.specs.Lined.{lined}
 use Rattle.dimacs.specs.Tokens.{run, past, lineEnd, wordEnds, stoppedAt}
+use Rattle.dimacs.specs.declared.Ends.{Ends}
 use Rattle.dimacs.proofs.Tests.{chosen}
 use Rattle.dimacs.proofs.Past.{past-more, past-stop, past-end}
 use Rattle.dimacs.proofs.Spans.{past-spans}
+use Rattle.dimacs.proofs.Lined.{ended-lined}
+use Rattle.dimacs.proofs.LinedTokens.{stopped-lined}
 use Rattle.token.specs.Parts.{PastWord}
 use Rattle.token.specs.Words.{LiesIn}
 
@@ -56,23 +60,23 @@ module _ {s : List ℕ} {at i : ℕ} (w : InWord s at i) where
   pub past-word-end : length s ≤ i → PastWord s at i
   past-word-end h = past-word-by s at i (w .on) (w .inside) (omega (arith, w .on, w .short, w .so, past-end isNotStop s i h))
 
--- Bytes that are the word. Nothing is, at a line end and at the end of the text, wherever it is taken from.
-module _ (s : List ℕ) (at : ℕ) where
-  pub stopped-at-word : (e : ℕ) → PastWord s at e → lineEnd s at ≡ at → take (e - at) (drop at s) ≡ stoppedAt s at
-  unfolding stoppedAt
+-- Bytes that are the word in a text as it is read. Nothing is, at a line end and at the end of the text, wherever it is taken from.
+module _ (rule : Ends) (s : List ℕ) (at : ℕ) where
+  pub stopped-at-word : (e : ℕ) → PastWord s at e → lineEnd (lined rule s) at ≡ at → take (e - at) (drop at s) ≡ stoppedAt (lined rule s) at
   stopped-at-word e w h =
       let k : e - at ≡ min longestWord (suc (run isNotStop (drop (at + 1) s))) = omega (arith, w .there) in
-      rw (k, eq-eqb (lineEnd s at) at h)
+      rw k (sym (stopped-lined rule s at h))
 
-  pub stopped-at-line-end : {x : List ℕ} → length x ≡ 0 → (lineEnd s at ≡ at → ⊥) → x ≡ stoppedAt s at
+  pub stopped-at-line-end : {x : List ℕ} → length x ≡ 0 → (lineEnd (lined rule s) at ≡ at → ⊥) → x ≡ stoppedAt (lined rule s) at
   unfolding stoppedAt
-  stopped-at-line-end {x = []} k h = rw (ne-eqb (lineEnd s at) at h)
+  stopped-at-line-end {x = []} k h = rw (ne-eqb (lineEnd (lined rule s) at) at h)
   stopped-at-line-end {x = b ∷ x} k h = absurd (omega arith)
 
-  pub stopped-at-end : {x : List ℕ} → length x ≡ 0 → length s ≤ at → x ≡ stoppedAt s at
+  pub stopped-at-end : {x : List ℕ} → length x ≡ 0 → length s ≤ at → x ≡ stoppedAt (lined rule s) at
   unfolding stoppedAt
   stopped-at-end {x = []} k h =
-      rw (drop-of-length-le s h) (chosen (λ (x : List ℕ). [] ≡ x) (eqb (lineEnd s at) at) (λ _. sym (take-nil (min longestWord (suc (run isNotStop (drop (at + 1) s)))))) (λ _. refl))
+      let read = lined rule s in
+      rw (drop-of-length-le read (ended-lined rule s h)) (chosen (λ (x : List ℕ). [] ≡ x) (eqb (lineEnd read at) at) (λ _. sym (take-nil (min longestWord (suc (run isNotStop (drop (at + 1) read)))))) (λ _. refl))
   stopped-at-end {x = b ∷ x} k h = absurd (omega arith)
 
 -- Two permitted parts have equal bytes and lie at one place.

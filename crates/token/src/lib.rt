@@ -3,10 +3,13 @@
 ghost use mathlib.Core.Path.{_≡_};
 ghost use Prim.Native.Nat.{_<_};
 ghost use lib.ListN.{length};
+ghost use Rattle.dimacs.specs.Lined.{lined};
 ghost use Rattle.dimacs.specs.Tokens.{atEnd, blanks, lineEnd, nextLine, endOfLine, fixed, wordEnds, word, strictComment, newline, linePast, lines, linebreaks};
 ghost use Rattle.token.specs.Parts.{PastWord};
+ghost use Rattle.token.specs.Returns.{alsoEnds, loneReturn};
 ghost use Rattle.token.specs.Words.{WordAt};
 use dimacs::EndOfLine;
+use dimacs::Ends;
 use dimacs::LONGEST_WORD;
 
 // Whether the text has ended.
@@ -78,23 +81,54 @@ pub fn word(text: &[u8], at: usize, w: &[u8]) -> usize
     at
 }
 
-// Past the next LF, or to the end of the text.
-pub fn interactive_skip_line(text: &[u8], at: usize) -> usize
-    ensures { λ r. ⌜ r ≡ nextLine (now (text .entry)) at ⌝ }
+// The byte that ends a line wherever it stands, beside LF: CR, or no other.
+fn also_ends(ends: Ends) -> u8
+    ensures { λ r. ⌜ r ≡ alsoEnds ends ⌝ }
 {
+    match ends {
+        Ends::LineFeed => b'\n',
+        Ends::AlsoReturn => b'\r',
+    }
+}
+
+// How many bytes a CR alone has as a line end.
+fn lone_return(ends: Ends) -> usize
+    ensures { λ r. ⌜ r ≡ loneReturn ends ⌝ }
+{
+    match ends {
+        Ends::LineFeed => 0,
+        Ends::AlsoReturn => 1,
+    }
+}
+
+// Past the next line end, or to the end of the text.
+pub fn interactive_skip_line(text: &[u8], ends: Ends, at: usize) -> usize
+    ensures { λ r. ⌜ r ≡ nextLine (lined ends (now (text .entry))) at ⌝ }
+{
+    let also = also_ends(ends);
     let mut i = at;
     while i < text.len() {
-        if text[i] == b'\n' {
-            return i + 1;
+        let b = text[i];
+        let next = i + 1;
+        if b == b'\n' {
+            return next;
         }
-        i += 1;
+        if b == also {
+            if next < text.len() {
+                if text[next] == b'\n' {
+                    return i + 2;
+                }
+            }
+            return next;
+        }
+        i = next;
     }
     i
 }
 
-// Past a line end, LF or CR LF.
-pub fn interactive_newline(text: &[u8], at: usize) -> usize
-    ensures { λ r. ⌜ r ≡ lineEnd (now (text .entry)) at ⌝ }
+// Past a line end.
+pub fn interactive_newline(text: &[u8], ends: Ends, at: usize) -> usize
+    ensures { λ r. ⌜ r ≡ lineEnd (lined ends (now (text .entry))) at ⌝ }
 {
     if at < text.len() {
         let b = text[at];
@@ -108,19 +142,20 @@ pub fn interactive_newline(text: &[u8], at: usize) -> usize
                     return at + 2;
                 }
             }
+            return at + lone_return(ends);
         }
     }
     at
 }
 
 // Past a line end, or the end of the text.
-pub fn interactive_end_of_line(text: &[u8], at: usize) -> EndOfLine
-    ensures { λ r. ⌜ r ≡ endOfLine (now (text .entry)) at ⌝ }
+pub fn interactive_end_of_line(text: &[u8], ends: Ends, at: usize) -> EndOfLine
+    ensures { λ r. ⌜ r ≡ endOfLine (lined ends (now (text .entry))) at ⌝ }
 {
     if text.len() <= at {
         return EndOfLine::Past(at);
     }
-    let e = interactive_newline(text, at);
+    let e = interactive_newline(text, ends, at);
     if e == at {
         return EndOfLine::Missing;
     }
@@ -128,10 +163,10 @@ pub fn interactive_end_of_line(text: &[u8], at: usize) -> EndOfLine
 }
 
 // Past a line end and the blanks after it.
-pub fn newline(text: &[u8], at: usize) -> usize
-    ensures { λ r. ⌜ r ≡ newline (now (text .entry)) at ⌝ }
+pub fn newline(text: &[u8], ends: Ends, at: usize) -> usize
+    ensures { λ r. ⌜ r ≡ newline (lined ends (now (text .entry))) at ⌝ }
 {
-    let past = interactive_newline(text, at);
+    let past = interactive_newline(text, ends, at);
     if past == at {
         return at;
     }
@@ -139,36 +174,36 @@ pub fn newline(text: &[u8], at: usize) -> usize
 }
 
 // Past a comment of a log.
-pub fn interactive_strict_comment(text: &[u8], at: usize) -> usize
-    ensures { λ r. ⌜ r ≡ strictComment (now (text .entry)) at ⌝ }
+pub fn interactive_strict_comment(text: &[u8], ends: Ends, at: usize) -> usize
+    ensures { λ r. ⌜ r ≡ strictComment (lined ends (now (text .entry))) at ⌝ }
 {
     let body = fixed(text, at, b"c ");
     if body == at {
         return at;
     }
-    interactive_skip_line(text, body)
+    interactive_skip_line(text, ends, body)
 }
 
 // Past a comment or a line end, without the blanks after it.
-pub fn line_past(text: &[u8], at: usize) -> usize
-    ensures { λ r. ⌜ r ≡ linePast (now (text .entry)) at ⌝ }
+pub fn line_past(text: &[u8], ends: Ends, at: usize) -> usize
+    ensures { λ r. ⌜ r ≡ linePast (lined ends (now (text .entry))) at ⌝ }
 {
     if at < text.len() {
         let b = text[at];
         if b == b'c' {
-            return interactive_skip_line(text, at + 1);
+            return interactive_skip_line(text, ends, at + 1);
         }
     }
-    interactive_newline(text, at)
+    interactive_newline(text, ends, at)
 }
 
 // Past as many comments and line ends as there are.
-pub fn comments_and_newlines(text: &[u8], at: usize) -> usize
-    ensures { λ r. ⌜ r ≡ lines (now (text .entry)) at ⌝ }
+pub fn comments_and_newlines(text: &[u8], ends: Ends, at: usize) -> usize
+    ensures { λ r. ⌜ r ≡ lines (lined ends (now (text .entry))) at ⌝ }
 {
     let mut i = at;
     loop {
-        let a = line_past(text, i);
+        let a = line_past(text, ends, i);
         if a == i {
             return i;
         }
@@ -177,14 +212,14 @@ pub fn comments_and_newlines(text: &[u8], at: usize) -> usize
 }
 
 // Past a line end with further comments and line ends.
-pub fn non_terminating_linebreaks(text: &[u8], at: usize) -> usize
-    ensures { λ r. ⌜ r ≡ linebreaks (now (text .entry)) at ⌝ }
+pub fn non_terminating_linebreaks(text: &[u8], ends: Ends, at: usize) -> usize
+    ensures { λ r. ⌜ r ≡ linebreaks (lined ends (now (text .entry))) at ⌝ }
 {
-    let a = newline(text, at);
+    let a = newline(text, ends, at);
     if a == at {
         return at;
     }
-    comments_and_newlines(text, a)
+    comments_and_newlines(text, ends, a)
 }
 
 // Past the word at a place before the text's end, or as far as the longest word goes.
@@ -206,14 +241,14 @@ fn word_end(text: &[u8], at: usize) -> usize
 }
 
 // The word a reader stopped at, as a part of the text: empty at a line end or the end of the text.
-pub fn stopped_at(text: &[u8], at: usize) -> &[u8]
-    ensures { λ r. ⌜ WordAt (text .entry) at r ⌝ }
+pub fn stopped_at(text: &[u8], ends: Ends, at: usize) -> &[u8]
+    ensures { λ r. ⌜ WordAt (text .entry) ends at r ⌝ }
 {
     let n = text.len();
     if n <= at {
         return &text[n..n];
     }
-    let line = interactive_newline(text, at);
+    let line = interactive_newline(text, ends, at);
     if line == at {
         let e = word_end(text, at);
         return &text[at..e];

@@ -3,9 +3,11 @@ use Prim.Native.Nat.{ℕ, _%_}
 use mathlib.Core.Bool.{Bool, cond}
 use mathlib.Core.List.{List, [], _∷_, _++_}
 use Rattle.dimacs.specs.Bytes.{bytes}
+use Rattle.dimacs.specs.Lined.{lined}
 use Rattle.dimacs.specs.Tokens as token
 use Rattle.dimacs.specs.Writing.{digits}
 use Rattle.dimacs.specs.declared.EndOfLine.{EndOfLine}
+use Rattle.dimacs.specs.declared.Ends.{Ends}
 use Rattle.dimacs.specs.declared.EndOfLine.the-variants as end
 use Rattle.dimacs.specs.declared.Int.{Int}
 use Rattle.dimacs.specs.declared.Int.the-variants as int
@@ -46,24 +48,6 @@ module _ (s : List ℕ) (at : ℕ) where
       digits (bit (token.atEnd s at)) ++
       printedNumber (bit (token.wordEnds s at))
 
-  -- Those, blanks and the ends of lines.
-  abbrev pub endAnswers : List ℕ
-  endAnswers =
-      testAnswers ++
-      printedNumber (token.blanks s at) ++
-      printedNumber (token.nextLine s at) ++
-      printedNumber (token.lineEnd s at) ++
-      printedEndOfLine (token.endOfLine s at)
-
-  -- Comments and line ends.
-  abbrev pub lineAnswers : List ℕ
-  lineAnswers =
-      printedNumber (token.newline s at) ++
-      printedNumber (token.linePast s at) ++
-      printedNumber (token.strictComment s at) ++
-      printedNumber (token.lines s at) ++
-      printedNumber (token.linebreaks s at)
-
   -- Fixed words, and words that end.
   abbrev pub wordAnswers : List ℕ
   wordAnswers =
@@ -79,6 +63,25 @@ module _ (s : List ℕ) (at : ℕ) where
       printedUint (token.bracedUintAt s limit at) ++
       printedInt (token.intAt s (limit % 4294967296) at)
 
+module _ (ends : Ends) (s : List ℕ) (at : ℕ) where
+  -- Whether the text or a word ends, blanks, and the ends of lines.
+  abbrev pub endAnswers : List ℕ
+  endAnswers =
+      testAnswers s at ++
+      printedNumber (token.blanks s at) ++
+      printedNumber (token.nextLine (lined ends s) at) ++
+      printedNumber (token.lineEnd (lined ends s) at) ++
+      printedEndOfLine (token.endOfLine (lined ends s) at)
+
+  -- Comments and line ends.
+  abbrev pub lineAnswers : List ℕ
+  lineAnswers =
+      printedNumber (token.newline (lined ends s) at) ++
+      printedNumber (token.linePast (lined ends s) at) ++
+      printedNumber (token.strictComment (lined ends s) at) ++
+      printedNumber (token.lines (lined ends s) at) ++
+      printedNumber (token.linebreaks (lined ends s) at)
+
   -- The whole line.
   abbrev pub tokenLine : ℕ → List ℕ
-  tokenLine limit = endAnswers ++ lineAnswers ++ wordAnswers ++ numberAnswers limit ++ bytes " \n"
+  tokenLine limit = endAnswers ++ lineAnswers ++ wordAnswers s at ++ numberAnswers s at limit ++ bytes " \n"

@@ -1,7 +1,7 @@
 // Prints what each token function that answers a place, a test or a number says of the cases on standard input.
 //
-// A case is the text's length as one byte, the text, and then the place
-// and the limit as eight bytes each, little-endian. A line has their answers in the order below: a place as it is, a test as 0 or 1,
+// A case is the text's length as one byte, the text, then the place
+// and the limit as eight bytes each, little-endian, and a byte that is not 0 where a lone CR ends a line. A line has their answers in the order below: a place as it is, a test as 0 or 1,
 // a number as `value@place`, `-` where there is none and `!` where it is too big, and a space after each. A case that is cut off is `cut`, and an input
 // that cannot be read is `unreadable`; nothing follows them.
 ghost use mathlib.Core.Path.{_≡_};
@@ -11,6 +11,7 @@ ghost use Rattle.pages.specs.Printed.{printedNumber};
 ghost use Rattle.token_cases.specs.Answers.{bit, printedPast, printedEndOfLine, printedUint, printedInt, testAnswers, endAnswers, lineAnswers, wordAnswers, numberAnswers, tokenLine};
 use console::Taken;
 use dimacs::EndOfLine;
+use dimacs::Ends;
 use dimacs::Int;
 use dimacs::Uint;
 
@@ -87,35 +88,47 @@ fn test_answers(page: &mut [u8], at: usize, text: &[u8], from: usize) -> usize
     pages::number(page, past, bit(token::is_end_of_word(text, from)))
 }
 
-fn end_answers(page: &mut [u8], at: usize, text: &[u8], from: usize) -> usize
-    ensures { λ r. ⌜ Lays at (endAnswers (now (text .entry)) from) (now (page .entry)) (now (page .exit)) r ⌝ }
+fn end_answers(page: &mut [u8], at: usize, text: &[u8], ends: Ends, from: usize) -> usize
+    ensures { λ r. ⌜ Lays at (endAnswers ends (now (text .entry)) from) (now (page .entry)) (now (page .exit)) r ⌝ }
 {
     let past_tests = test_answers(page, at, text, from);
     let past_blanks = place(page, past_tests, token::skip_whitespace(text, from));
-    let past_line = place(page, past_blanks, token::interactive_skip_line(text, from));
-    let past_newline = place(page, past_line, token::interactive_newline(text, from));
+    let past_line = place(
+        page,
+        past_blanks,
+        token::interactive_skip_line(text, ends, from),
+    );
+    let past_newline = place(
+        page,
+        past_line,
+        token::interactive_newline(text, ends, from),
+    );
     end_of_line_words(
         page,
         past_newline,
-        token::interactive_end_of_line(text, from),
+        token::interactive_end_of_line(text, ends, from),
     )
 }
 
-fn line_answers(page: &mut [u8], at: usize, text: &[u8], from: usize) -> usize
-    ensures { λ r. ⌜ Lays at (lineAnswers (now (text .entry)) from) (now (page .entry)) (now (page .exit)) r ⌝ }
+fn line_answers(page: &mut [u8], at: usize, text: &[u8], ends: Ends, from: usize) -> usize
+    ensures { λ r. ⌜ Lays at (lineAnswers ends (now (text .entry)) from) (now (page .entry)) (now (page .exit)) r ⌝ }
 {
-    let past_newline = place(page, at, token::newline(text, from));
-    let past_line = place(page, past_newline, token::line_past(text, from));
+    let past_newline = place(page, at, token::newline(text, ends, from));
+    let past_line = place(page, past_newline, token::line_past(text, ends, from));
     let past_comment = place(
         page,
         past_line,
-        token::interactive_strict_comment(text, from),
+        token::interactive_strict_comment(text, ends, from),
     );
-    let past_lines = place(page, past_comment, token::comments_and_newlines(text, from));
+    let past_lines = place(
+        page,
+        past_comment,
+        token::comments_and_newlines(text, ends, from),
+    );
     place(
         page,
         past_lines,
-        token::non_terminating_linebreaks(text, from),
+        token::non_terminating_linebreaks(text, ends, from),
     )
 }
 
@@ -140,25 +153,34 @@ fn number_answers(page: &mut [u8], at: usize, text: &[u8], from: usize, limit: u
     )
 }
 
-fn token_line(page: &mut [u8], at: usize, text: &[u8], from: usize, limit: u64) -> usize
-    ensures { λ r. ⌜ Lays at (tokenLine (now (text .entry)) from limit) (now (page .entry)) (now (page .exit)) r ⌝ }
+fn token_line(page: &mut [u8], at: usize, text: &[u8], ends: Ends, from: usize, limit: u64) -> usize
+    ensures { λ r. ⌜ Lays at (tokenLine ends (now (text .entry)) from limit) (now (page .entry)) (now (page .exit)) r ⌝ }
 {
-    let past_ends = end_answers(page, at, text, from);
-    let past_lines = line_answers(page, past_ends, text, from);
+    let past_ends = end_answers(page, at, text, ends, from);
+    let past_lines = line_answers(page, past_ends, text, ends, from);
     let past_words = word_answers(page, past_lines, text, from);
     let past_numbers = number_answers(page, past_words, text, from, limit);
     pages::word(page, past_numbers, b" \n")
 }
 
-// The place and the limit of a case, and whether another case may follow.
+// What ends a line by a byte: LF and CR LF, or, for any byte but 0, a lone CR too.
+fn ends_of(b: u8) -> Ends {
+    if b == 0 {
+        return Ends::LineFeed;
+    }
+    Ends::AlsoReturn
+}
+
+// The place, the limit and what ends a line of a case, and whether another case may follow.
 fn asked(page: &mut [u8], text: &[u8]) -> bool {
-    let mut numbers = [0u8; 16];
+    let mut numbers = [0u8; 17];
     let taken = console::take(&mut numbers);
     let Taken::Whole = taken else {
         return console::stop(taken);
     };
     let from = frame::u64_at(&numbers, 0) as usize;
-    let past = token_line(page, 0, text, from, frame::u64_at(&numbers, 8));
+    let ends = ends_of(frame::u8_at(&numbers, 16));
+    let past = token_line(page, 0, text, ends, from, frame::u64_at(&numbers, 8));
     console::print(pages::upto(page, past));
     true
 }

@@ -13,15 +13,17 @@ use lib.IntN.{ℤ}
 use Rattle.dimacs.specs.Loop.{Step, again, answer}
 use Rattle.dimacs.specs.Bytes.{bytes, isNotLF}
 use Rattle.dimacs.specs.Names.{Reason, refusal, ceiling}
+use Rattle.dimacs.specs.Lined.{lined}
 use Rattle.dimacs.specs.Tokens.{begins, unmoved, atEnd, blanks, nextLine, endOfLine, lineEnds, fixed, strictComment}
 use Rattle.dimacs.specs.Rows.{Row, ends, closes, stops, reads, row}
-use Rattle.dimacs.specs.Logs.{LogAnswer, accepted, refusedLog, Log, logAt, isClosed, isSaid, lineRead, valuesRead, valueLine, solutionIs, solutionLine, logEnd, otherLine, logLine, log}
+use Rattle.dimacs.specs.Logs.{LogAnswer, accepted, refusedLog, Log, logAt, logBegin, isClosed, isSaid, lineRead, valuesRead, valueLine, solutionIs, solutionLine, logEnd, otherLine, logLine, logFrom, log}
 use Rattle.dimacs.specs.declared.Assignment.{Assignment}
 use Rattle.dimacs.specs.declared.Assignment.the-variants.{Unbegun, Begun, Closed}
 use Rattle.dimacs.specs.declared.EndOfLine.{EndOfLine}
 use Rattle.dimacs.specs.declared.EndOfLine.the-variants as end
 use Rattle.dimacs.specs.declared.Mode.{Mode}
-use Rattle.dimacs.specs.declared.Mode.the-variants.{Strict, Lenient}
+use Rattle.dimacs.specs.declared.Rigor.{Rigor}
+use Rattle.dimacs.specs.declared.Rigor.the-variants.{Strict, Lenient}
 use Rattle.dimacs.specs.declared.Verdict.{Verdict}
 use Rattle.dimacs.specs.declared.Verdict.the-variants.{Yes, No, Unknown, None}
 use Rattle.dimacs.proofs.Tests.{tested, chosen, unlike, neither-left, neither-right}
@@ -134,7 +136,7 @@ module _ (s : List ℕ) where
   say-at-end at Unknown h t = t
   say-at-end at None h t = λ i k o. t i (omega arith) o
 
-  other-line-said : (mode : Mode) (l : Log) → SayBefore s (nextLine s (l .at)) (l .verdict) → LineSaid s (otherLine s mode l)
+  other-line-said : (rigor : Rigor) (l : Log) → SayBefore s (nextLine s (l .at)) (l .verdict) → LineSaid s (otherLine s rigor l)
   other-line-said Strict l t = tt
   other-line-said Lenient l t = record { place = next-opens s (l .at); said = t }
 
@@ -144,7 +146,7 @@ unsaid No h = unlike h
 unsaid Unknown h = unlike h
 unsaid None h = refl
 
-module _ (s : List ℕ) (mode : Mode) (room : ℕ) where
+module _ (s : List ℕ) (rigor : Rigor) (room : ℕ) where
   comment-is : (at : ℕ) → unmoved at (strictComment s at) ≡ false → (begins (bytes "c ") (drop at s) ≡ true) × (strictComment s at ≡ nextLine s at)
   unfolding strictComment
   comment-is at y =
@@ -153,7 +155,7 @@ module _ (s : List ℕ) (mode : Mode) (room : ℕ) where
       (λ z. (fixed-stands s (bytes "c ") at z, rw z (same-next (fixed-on-line s (bytes "c ") (refl, (refl, tt)) at))))
 
   -- What is so of a line is so of the next.
-  line-said : (l : Log) → Reached s l → LineSaid s (logLine s mode room l)
+  line-said : (l : Log) → Reached s l → LineSaid s (logLine s rigor room l)
   unfolding logLine
   line-said l h =
       let at = l .at in
@@ -165,7 +167,7 @@ module _ (s : List ℕ) (mode : Mode) (room : ℕ) where
       (λ _. chosen (LineSaid s) (isSaid (l .verdict) || unmoved at e)
       (λ y. chosen (LineSaid s) (atEnd s at)
       (λ k. log-end-said s at (l .verdict) (l .so) (l .assignment) (say-at-end s at (l .verdict) (leb-true (length s) at k) (h .said)))
-      (λ _. other-line-said s mode l (on (λ n. fixed-stands-not s (bytes "s ") at (omega arith) (subst (λ x. isSaid x || unmoved at e ≡ true) n y)))))
+      (λ _. other-line-said s rigor l (on (λ n. fixed-stands-not s (bytes "s ") at (omega arith) (subst (λ x. isSaid x || unmoved at e ≡ true) n y)))))
       (λ y.
       let b = fixed-stands s (bytes "s ") at (neither-right (isSaid (l .verdict)) (unmoved at e) y) in
       let n = unsaid (l .verdict) (neither-left (isSaid (l .verdict)) (unmoved at e) y) in
@@ -187,12 +189,13 @@ module _ (s : List ℕ) (mode : Mode) (room : ℕ) where
           go (inl o) = o
           go (inr o) = absurd (omega (arith, stands-within s (bytes "s ") (l .at) (omega arith) b))
 
-  -- The verdict of an accepted log is what its lines say.
-  pub lines-say-verdict : {v : Verdict} {so : List ℤ} → log s mode room ≡ accepted v so → LinesSay s v
-  unfolding log
-  lines-say-verdict e =
-      subst (LogSaid s) e
-      (log-kept s mode room (Reached s) (LogSaid s) line-said _ (record { place = inl (inl refl); said = λ i h o. absurd (omega arith) }))
+  lines-said : LogSaid s (logFrom s rigor room logBegin)
+  lines-said = log-kept s rigor room (Reached s) (LogSaid s) line-said logBegin (record { place = inl (inl refl); said = λ i h o. absurd (omega arith) })
+
+-- The verdict of an accepted log is what its lines say, as they are read.
+pub lines-say-verdict : (s : List ℕ) (m : Mode) (room : ℕ) {v : Verdict} {so : List ℤ} → log s m room ≡ accepted v so → LinesSay (lined (m .ends) s) v
+unfolding log
+lines-say-verdict s m room e = subst (LogSaid (lined (m .ends) s)) e (lines-said (lined (m .ends) s) (m .rigor) room)
 
 module _ (s : List ℕ) where
   none-earlier : (u : List ℕ) (f : FirstIs s (bytes "s " ++ u)) (n : ℕ) → NoneBefore s n → n ≤ f .at

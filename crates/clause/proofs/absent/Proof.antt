@@ -1,6 +1,7 @@
 -- `clause::absent` meets its contract, by what the absence means. Assumes nothing.
 use mathlib.Core.Path.{sym, _∙_}
 use Rattle.dimacs.specs.Clauses.{absent}
+use Rattle.dimacs.proofs.LinedTokens.{end-lined}
 use borrow.Author.Needs.{needs}
 use Rattle.clause.proofs.absent.Statement.{statement}
 use Rattle.clause.proofs.absent.Tie as tie
@@ -15,7 +16,7 @@ returns : tie.Need-returns
 unfolding absent
 returns c = let a = c .before .before .enum-told .given .1 in
     let t = sym (c .before .eof .ensures) ∙ c .if1 .taken in
-    rw (a, t)
+    rw (a, end-lined, t)
 
 refuse-requires : tie.Need-refuse-requires
 refuse-requires c κs = search needs
@@ -37,7 +38,7 @@ unfolding absent
 returns-2 c = let a = c .before .before .before .enum-told .given .1 in
     let t = sym (c .before .before .eof .ensures) ∙ c .before .if1 .left in
     let r = c .refuse .ensures in
-    rw (a, t, r)
+    rw (a, end-lined, t, r)
 
 returns-3 : tie.Need-returns-3
 unfolding absent

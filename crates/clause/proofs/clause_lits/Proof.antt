@@ -1,16 +1,17 @@
 -- `clause::clause_lits` meets its contract: each way out, and each way on, by what the row leads to. Assumes nothing.
 use Prim.Native.Nat.{_-_}
 use lib.ListN.{length}
+use Rattle.dimacs.specs.Lined.{lined}
 use Rattle.clause.proofs.RowByRow.{SoFar, so-far-start, after-row}
 use borrow.Author.Needs.{needs}
 use Rattle.clause.proofs.clause_lits.Statement.{statement}
 use Rattle.clause.proofs.clause_lits.Tie as tie
 
 abbrev Inv-loop : tie.InvT-loop
-Inv-loop text at limit lits₀ from₀ held₀ lits from held = SoFar text limit at lits₀ lits from held
+Inv-loop text ends at limit lits₀ from₀ held₀ lits from held = SoFar (lined ends text) limit at lits₀ lits from held
 
 abbrev μ-loop : tie.MeasureT-loop
-μ-loop text at limit lits₀ from₀ held₀ lits from held = length text - from
+μ-loop text ends at limit lits₀ from₀ held₀ lits from held = length (lined ends text) - from
 
 -- Where the last row was read, from where its count is known, and the loop from there.
 abbrev at-row : tie.After-known-told Inv-loop μ-loop → tie.After-ints Inv-loop μ-loop

@@ -1,5 +1,6 @@
 -- `clause::start_at` meets its contract, by the format. Assumes nothing.
 use Rattle.dimacs.specs.Clauses.{startAt}
+use Rattle.dimacs.proofs.LinedTokens.{uint-lined, braced-uint-lined}
 use borrow.Author.Needs.{needs}
 use Rattle.clause.proofs.start_at.Statement.{statement}
 use Rattle.clause.proofs.start_at.Tie as tie
@@ -37,11 +38,11 @@ returns c = let f = c .enum-told .given .1 in rw f
 
 returns-2 : tie.Need-returns-2
 unfolding startAt
-returns-2 c = let f = c .before .before .enum-told2 .given .1 in let u = c .before .uint .ensures in rw f (rw u at (c .start-by .ensures))
+returns-2 c = let f = c .before .before .enum-told2 .given .1 in let u = c .before .uint .ensures in rw (f, uint-lined) (rw u at (c .start-by .ensures))
 
 returns-3 : tie.Need-returns-3
 unfolding startAt
-returns-3 c = let f = c .before .before .enum-told3 .given .1 in let u = c .before .braced-uint .ensures in rw f (rw u at (c .start-by2 .ensures))
+returns-3 c = let f = c .before .before .enum-told3 .given .1 in let u = c .before .braced-uint .ensures in rw (f, braced-uint-lined) (rw u at (c .start-by2 .ensures))
 
 returns-4 : tie.Need-returns-4
 unfolding startAt

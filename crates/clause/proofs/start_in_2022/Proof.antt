@@ -2,6 +2,7 @@
 use mathlib.Core.Path.{sym}
 use borrow.Author.Tests.{eq-eqb, ne-eqb}
 use Rattle.dimacs.specs.Clauses.{startIn2022}
+use Rattle.dimacs.proofs.LinedTokens.{p-lined, h-lined, uint-lined}
 use borrow.Author.Needs.{needs}
 use Rattle.clause.proofs.start_in_2022.Statement.{statement}
 use Rattle.clause.proofs.start_in_2022.Tie as tie
@@ -20,7 +21,7 @@ unfolding startIn2022
 returns c =
     let p = c .before .before .word .ensures in
     let r = c .refuse .ensures in
-    rw (sym p, ne-eqb _ _ (c .before .if1 .taken), r)
+    rw (p-lined, sym p, ne-eqb _ _ (c .before .if1 .taken), r)
 
 slice-aggregate-word-2 : tie.Need-slice-aggregate-word-2
 slice-aggregate-word-2 c = search needs
@@ -38,7 +39,7 @@ returns-2 c =
     let none = looked .before .before in
     let p = none .before .word .ensures in
     let h = looked .word2 .ensures in
-    rw (sym p, eq-eqb _ _ (none .if1 .left), sym h, ne-eqb _ _ (c .before .if2 .taken)) (c .literals-after .ensures)
+    rw (p-lined, sym p, eq-eqb _ _ (none .if1 .left), h-lined, sym h, ne-eqb _ _ (c .before .if2 .taken)) (c .literals-after .ensures)
 
 uint-requires : tie.Need-uint-requires
 uint-requires c κs = search needs
@@ -55,7 +56,7 @@ returns-3 c =
     let p = none .before .word .ensures in
     let h = looked .word2 .ensures in
     let u = c .before .uint .ensures in
-    rw (sym p, eq-eqb _ _ (none .if1 .left), sym h, eq-eqb _ _ (soft .if2 .left), sym u) (c .soft-by .ensures)
+    rw (p-lined, sym p, eq-eqb _ _ (none .if1 .left), h-lined, sym h, eq-eqb _ _ (soft .if2 .left), uint-lined, sym u) (c .soft-by .ensures)
 
 pub start-in-2022-spec : {M : Type 1} → statement M
 start-in-2022-spec =

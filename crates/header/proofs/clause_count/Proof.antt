@@ -1,6 +1,7 @@
 -- `header::clause_count` meets its contract, by the count at the place. Assumes nothing.
 use mathlib.Core.Path.{sym, _∙_}
 use Rattle.dimacs.specs.Header.{clauseCount}
+use Rattle.dimacs.proofs.LinedTokens.{uint-lined}
 use borrow.Author.Needs.{needs}
 use Rattle.header.proofs.clause_count.Statement.{statement}
 use Rattle.header.proofs.clause_count.Tie as tie
@@ -28,15 +29,15 @@ third-count-requires c κs = search needs
 
 returns : tie.Need-returns
 unfolding clauseCount
-returns c = let e = sym (c .before .before .before .uint .ensures) ∙ c .before .enum-told .given .1 in rw e (c .refused .ensures)
+returns c = let e = sym (c .before .before .before .uint .ensures) ∙ c .before .enum-told .given .1 in rw (uint-lined, e) (c .refused .ensures)
 
 returns-2 : tie.Need-returns-2
 unfolding clauseCount
-returns-2 c = let e = sym (c .before .before .before .uint .ensures) ∙ c .before .enum-told2 .given .1 in rw e (c .refused2 .ensures)
+returns-2 c = let e = sym (c .before .before .before .uint .ensures) ∙ c .before .enum-told2 .given .1 in rw (uint-lined, e) (c .refused2 .ensures)
 
 returns-3 : tie.Need-returns-3
 unfolding clauseCount
-returns-3 c = let e = sym (c .before .before .before .before .uint .ensures) ∙ c .before .before .clauses .given .1 in rw e (c .third-count .ensures)
+returns-3 c = let e = sym (c .before .before .before .before .uint .ensures) ∙ c .before .before .clauses .given .1 in rw (uint-lined, e) (c .third-count .ensures)
 
 pub clause-count-spec : {M : Type 1} → statement M
 clause-count-spec =

@@ -1,4 +1,4 @@
--- `header::limits_of` meets its contract, by the mode. Assumes nothing.
+-- `header::limits_of` meets its contract, by how strictly the text is read. Assumes nothing.
 use borrow.Author.Needs.{needs}
 use Rattle.header.proofs.limits_of.Statement.{statement}
 use Rattle.header.proofs.limits_of.Tie as tie

@@ -3,6 +3,7 @@ use mathlib.Core.Path.{sym, ap, _∙_}
 use borrow.Author.Tests.{eq-eqb, ne-eqb}
 use Rattle.dimacs.specs.Tokens.{lines}
 use Rattle.dimacs.specs.Header.{openingOf}
+use Rattle.dimacs.proofs.LinedTokens.{blanks-lined, p-lined}
 use borrow.Author.Needs.{needs}
 use Rattle.header.proofs.opening_of.Statement.{statement}
 use Rattle.header.proofs.opening_of.Tie as tie
@@ -34,7 +35,7 @@ returns c =
     let a = skipped .comments-and-newlines .ensures ∙ ap (lines _) (skipped .before .skip-whitespace .ensures) in
     let has = sym (asked .before .has-header .ensures) ∙ asked .if1 .taken in
     let q = looked .word .ensures in
-    rw (sym a, sym q, has, ne-eqb _ _ (c .before .if2 .taken)) (c .after-p .ensures)
+    rw (blanks-lined, sym a, p-lined, sym q, has, ne-eqb _ _ (c .before .if2 .taken)) (c .after-p .ensures)
 
 returns-2 : tie.Need-returns-2
 unfolding openingOf
@@ -45,7 +46,7 @@ returns-2 c =
     let a = skipped .comments-and-newlines .ensures ∙ ap (lines _) (skipped .before .skip-whitespace .ensures) in
     let has = sym (asked .before .has-header .ensures) ∙ asked .if1 .taken in
     let q = looked .word .ensures in
-    rw (sym a, sym q, has, eq-eqb _ _ (c .if2 .left))
+    rw (blanks-lined, sym a, p-lined, sym q, has, eq-eqb _ _ (c .if2 .left))
 
 returns-3 : tie.Need-returns-3
 unfolding openingOf
@@ -53,7 +54,7 @@ returns-3 c =
     let skipped = c .before .before in
     let a = skipped .comments-and-newlines .ensures ∙ ap (lines _) (skipped .before .skip-whitespace .ensures) in
     let none = sym (c .before .has-header .ensures) ∙ c .if1 .left in
-    rw (sym a, none)
+    rw (blanks-lined, sym a, none)
 
 pub opening-of-spec : {M : Type 1} → statement M
 opening-of-spec =

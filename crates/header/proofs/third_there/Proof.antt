@@ -1,6 +1,7 @@
 -- `header::third_there` meets its contract, by the count at the place. Assumes nothing.
 use mathlib.Core.Path.{sym, _∙_}
 use Rattle.dimacs.specs.Header.{thirdThere}
+use Rattle.dimacs.proofs.LinedTokens.{uint-lined}
 use borrow.Author.Needs.{needs}
 use Rattle.header.proofs.third_there.Statement.{statement}
 use Rattle.header.proofs.third_there.Tie as tie
@@ -28,15 +29,15 @@ header-end-requires c κs = search needs
 
 returns : tie.Need-returns
 unfolding thirdThere
-returns c = let e = sym (c .before .before .before .uint .ensures) ∙ c .before .enum-told .given .1 in rw e (c .refused .ensures)
+returns c = let e = sym (c .before .before .before .uint .ensures) ∙ c .before .enum-told .given .1 in rw (uint-lined, e) (c .refused .ensures)
 
 returns-2 : tie.Need-returns-2
 unfolding thirdThere
-returns-2 c = let e = sym (c .before .before .before .uint .ensures) ∙ c .before .enum-told2 .given .1 in rw e (c .refused2 .ensures)
+returns-2 c = let e = sym (c .before .before .before .uint .ensures) ∙ c .before .enum-told2 .given .1 in rw (uint-lined, e) (c .refused2 .ensures)
 
 returns-3 : tie.Need-returns-3
 unfolding thirdThere
-returns-3 c = let e = sym (c .before .before .before .before .uint .ensures) ∙ c .before .before .third .given .1 in rw e (c .header-end .ensures)
+returns-3 c = let e = sym (c .before .before .before .before .uint .ensures) ∙ c .before .before .third .given .1 in rw (uint-lined, e) (c .header-end .ensures)
 
 pub third-there-spec : {M : Type 1} → statement M
 third-there-spec =

@@ -1,6 +1,7 @@
 -- `header::var_count` meets its contract, by the count at the place. Assumes nothing.
 use mathlib.Core.Path.{sym, _∙_}
 use Rattle.dimacs.specs.Header.{variableCount}
+use Rattle.dimacs.proofs.LinedTokens.{uint-lined}
 use borrow.Author.Needs.{needs}
 use Rattle.header.proofs.var_count.Statement.{statement}
 use Rattle.header.proofs.var_count.Tie as tie
@@ -31,15 +32,15 @@ clause-count-requires c κs = search needs
 
 returns : tie.Need-returns
 unfolding variableCount
-returns c = let e = sym (c .before .before .before .uint .ensures) ∙ c .before .enum-told .given .1 in rw e (c .refused .ensures)
+returns c = let e = sym (c .before .before .before .uint .ensures) ∙ c .before .enum-told .given .1 in rw (uint-lined, e) (c .refused .ensures)
 
 returns-2 : tie.Need-returns-2
 unfolding variableCount
-returns-2 c = let e = sym (c .before .before .before .uint .ensures) ∙ c .before .enum-told2 .given .1 in rw e (c .refused2 .ensures)
+returns-2 c = let e = sym (c .before .before .before .uint .ensures) ∙ c .before .enum-told2 .given .1 in rw (uint-lined, e) (c .refused2 .ensures)
 
 returns-3 : tie.Need-returns-3
 unfolding variableCount
-returns-3 c = let e = sym (c .before .before .before .before .uint .ensures) ∙ c .before .before .variables .given .1 in rw e (c .clause-count .ensures)
+returns-3 c = let e = sym (c .before .before .before .before .uint .ensures) ∙ c .before .before .variables .given .1 in rw (uint-lined, e) (c .clause-count .ensures)
 
 pub var-count-spec : {M : Type 1} → statement M
 var-count-spec =

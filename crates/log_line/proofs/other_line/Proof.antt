@@ -1,4 +1,4 @@
--- `log_line::other_line` meets its contract, by the mode. Assumes nothing.
+-- `log_line::other_line` meets its contract, by how strictly the log is read. Assumes nothing.
 use borrow.Author.Needs.{needs}
 use Rattle.log_line.proofs.other_line.Statement.{statement}
 use Rattle.log_line.proofs.other_line.Tie as tie

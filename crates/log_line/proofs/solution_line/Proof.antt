@@ -32,7 +32,7 @@ line-read-requires c κs = search needs
 returns : tie.Need-returns
 returns c =
     let yes = c .before .before in
-    λ so h. c .line-read .ensures so h ∙ ap logLineOf (sym (says-yes _ _ (state yes so) _ (yes .fixed .ensures) (c .before .if1 .taken)))
+    λ so h. c .line-read .ensures so h ∙ ap logLineOf (sym (says-yes _ _ _ (state yes so) _ (yes .fixed .ensures) (c .before .if1 .taken)))
 
 slice-aggregate-fixed-2 : tie.Need-slice-aggregate-fixed-2
 slice-aggregate-fixed-2 c = search needs
@@ -48,7 +48,7 @@ returns-2 c =
     let no = c .before .before in
     let yes = yes-tried no in
     λ so h. c .line-read2 .ensures so h
-    ∙ ap logLineOf (sym (says-no _ _ (state yes so) _ (yes .fixed .ensures) (no .before .before .if1 .left) _ (no .fixed2 .ensures) (c .before .if2 .taken)))
+    ∙ ap logLineOf (sym (says-no _ _ _ (state yes so) _ (yes .fixed .ensures) (no .before .before .if1 .left) _ (no .fixed2 .ensures) (c .before .if2 .taken)))
 
 slice-aggregate-fixed-3 : tie.Need-slice-aggregate-fixed-3
 slice-aggregate-fixed-3 c = search needs
@@ -65,7 +65,7 @@ returns-3 c =
     let no = no-tried unknown in
     let yes = yes-tried no in
     λ so h. c .line-read3 .ensures so h
-    ∙ ap logLineOf (sym (says-unknown _ _ (state yes so) _ (yes .fixed .ensures) (no .before .before .if1 .left) _ (no .fixed2 .ensures) (unknown .before .before .if2 .left) _ (unknown .fixed3 .ensures) (c .before .if3 .taken)))
+    ∙ ap logLineOf (sym (says-unknown _ _ _ (state yes so) _ (yes .fixed .ensures) (no .before .before .if1 .left) _ (no .fixed2 .ensures) (unknown .before .before .if2 .left) _ (unknown .fixed3 .ensures) (c .before .if3 .taken)))
 
 refused-requires : tie.Need-refused-requires
 refused-requires c κs = search needs
@@ -76,7 +76,7 @@ returns-4 c =
     let no = no-tried unknown in
     let yes = yes-tried no in
     λ so h. rw (← h) at (c .refused .ensures)
-    ∙ ap logLineOf (sym (says-nothing _ _ (state yes so) _ (yes .fixed .ensures) (no .before .before .if1 .left) _ (no .fixed2 .ensures) (unknown .before .before .if2 .left) _ (unknown .fixed3 .ensures) (c .before .if3 .left)))
+    ∙ ap logLineOf (sym (says-nothing _ _ _ (state yes so) _ (yes .fixed .ensures) (no .before .before .if1 .left) _ (no .fixed2 .ensures) (unknown .before .before .if2 .left) _ (unknown .fixed3 .ensures) (c .before .if3 .left)))
 
 pub solution-line-spec : {M : Type 1} → statement M
 solution-line-spec =

@@ -1,6 +1,7 @@
 -- `log_line::value_line` meets its contract: what closes the line, by what its row comes to. Assumes nothing.
 use Rattle.dimacs.specs.Logs.{valueLine}
 use Rattle.log_line.proofs.Rows.{values-lead}
+use Rattle.dimacs.proofs.LinedTokens.{blanks-lined}
 use borrow.Author.Needs.{needs}
 use Rattle.log_line.proofs.value_line.Statement.{statement}
 use Rattle.log_line.proofs.value_line.Tie as tie
@@ -35,7 +36,7 @@ returns c =
     let ended = c .before .before in
     let row = ended .before .before .before in
     let q = row .before .before .skip-whitespace .ensures in
-    values-lead _ _ _ _ _ (rw q at (row .ints .ensures)) (ended .place .given .1) _ (c .line-read .ensures)
+    rw blanks-lined (values-lead _ _ _ _ _ (rw q at (row .ints .ensures)) (ended .place .given .1) _ (c .line-read .ensures))
 
 same-length-2 : tie.Need-same-length-2
 same-length-2 c = search needs
@@ -46,7 +47,7 @@ returns-2 c =
     let closed = c .before .before in
     let row = closed .before .before .before in
     let q = row .before .before .skip-whitespace .ensures in
-    values-lead _ _ _ _ _ (rw q at (row .ints .ensures)) (closed .place2 .given .1) _ (c .line-read2 .ensures)
+    rw blanks-lined (values-lead _ _ _ _ _ (rw q at (row .ints .ensures)) (closed .place2 .given .1) _ (c .line-read2 .ensures))
 
 same-length-3 : tie.Need-same-length-3
 same-length-3 c = search needs
@@ -57,7 +58,7 @@ returns-3 c =
     let stopped = c .before in
     let row = stopped .before .before .before in
     let q = row .before .before .skip-whitespace .ensures in
-    values-lead _ _ _ _ _ (rw q at (row .ints .ensures)) (stopped .refusal .given .1)
+    rw blanks-lined (values-lead _ _ _ _ _ (rw q at (row .ints .ensures)) (stopped .refusal .given .1))
 
 pub value-line-spec : {M : Type 1} → statement M
 value-line-spec =

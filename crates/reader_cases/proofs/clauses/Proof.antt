@@ -10,10 +10,10 @@ use Rattle.reader_cases.proofs.clauses.Statement.{statement}
 use Rattle.reader_cases.proofs.clauses.Tie as tie
 
 abbrev Inv-loop : tie.InvT-loop
-Inv-loop text lits₀ page₀ cursor₀ format t14 lits page cursor = (length lits ≡ length lits₀) × (length page ≡ length page₀)
+Inv-loop text lits₀ page₀ cursor₀ format ends t14 lits page cursor = (length lits ≡ length lits₀) × (length page ≡ length page₀)
 
 abbrev μ-loop : tie.MeasureT-loop
-μ-loop text lits₀ page₀ cursor₀ format t14 lits page cursor = toCome text (cursor .progress .place)
+μ-loop text lits₀ page₀ cursor₀ format ends t14 lits page cursor = toCome text (cursor .progress .place)
 
 abbrev at-call : tie.After-answer Inv-loop μ-loop → tie.After-next-clause Inv-loop μ-loop
 at-call c =

@@ -26,6 +26,9 @@ accepted-requires c κs = search needs
 enum-known-refusal : tie.Need-enum-known-refusal
 enum-known-refusal c = search needs
 
+log-ends-requires : tie.Need-log-ends-requires
+log-ends-requires c κs = search needs
+
 refused-requires : tie.Need-refused-requires
 refused-requires c κs = search needs
 
@@ -57,6 +60,7 @@ log-lines-spec =
     slice-aggregate-accepted
     accepted-requires
     enum-known-refusal
+    log-ends-requires
     refused-requires
     same-length
     same-length-2

@@ -5,6 +5,8 @@ use mathlib.Core.Path.{_≡_, sym, _∙_}
 use lib.ListN.{length}
 use mir.Syntax.{w32}
 use mir.Val.{toZ, ofZ}
+use Rattle.dimacs.specs.Lined.{lined}
+use Rattle.dimacs.proofs.LinedTokens.{int-lined}
 use Rattle.dimacs.proofs.Rows.{row-ends, row-closes, row-too-big, row-full, row-takes, takes-falls}
 use Rattle.dimacs.proofs.Buffer.{kept-full, kept-room}
 use Rattle.rows.proofs.Buffer.{RowSoFar, row-so-far-start, row-so-far-full, row-so-far-ends, row-so-far-closes, row-so-far-stops, row-so-far-puts}
@@ -14,10 +16,10 @@ use Rattle.rows.proofs.ints.Statement.{statement}
 use Rattle.rows.proofs.ints.Tie as tie
 
 abbrev Inv-loop : tie.InvT-loop
-Inv-loop text at limit held lits₀ place₀ count₀ lits place count = RowSoFar text limit at held lits₀ lits place count
+Inv-loop text ends at limit held lits₀ place₀ count₀ lits place count = RowSoFar (lined ends text) limit at held lits₀ lits place count
 
 abbrev μ-loop : tie.MeasureT-loop
-μ-loop text at limit held lits₀ place₀ count₀ lits place count = length text - place
+μ-loop text ends at limit held lits₀ place₀ count₀ lits place count = length (lined ends text) - place
 
 -- Where the number was read, as seen where it is a literal.
 abbrev number-at : tie.After-v Inv-loop μ-loop → tie.After-int Inv-loop μ-loop
@@ -42,7 +44,7 @@ same-length c = search needs
 returns : tie.Need-returns Inv-loop μ-loop
 returns c =
     let number = c .before .before in
-    row-so-far-ends (number .before .loop .inv) (row-ends _ _ _ _ _ (sym (number .int .ensures) ∙ c .enum-told .given .1))
+    row-so-far-ends (number .before .loop .inv) (row-ends _ _ _ _ _ (int-lined _ _ _ _ ∙ sym (number .int .ensures) ∙ c .enum-told .given .1))
 
 enum-known-next : tie.Need-enum-known-next Inv-loop μ-loop
 enum-known-next c = search needs
@@ -53,7 +55,7 @@ same-length-2 c = search needs
 returns-2 : tie.Need-returns-2 Inv-loop μ-loop
 returns-2 c =
     let number = c .before .before .before in
-    row-so-far-closes (number .before .loop .inv) (row-closes _ _ _ _ _ (sym (number .int .ensures) ∙ c .before .next .given .1))
+    row-so-far-closes (number .before .loop .inv) (row-closes _ _ _ _ _ (int-lined _ _ _ _ ∙ sym (number .int .ensures) ∙ c .before .next .given .1))
 
 enum-told-2 : tie.Need-enum-told-2 Inv-loop μ-loop
 enum-told-2 c = search needs
@@ -67,7 +69,7 @@ same-length-3 c = search needs
 returns-3 : tie.Need-returns-3 Inv-loop μ-loop
 returns-3 c =
     let number = c .before .before .before in
-    row-so-far-stops (number .before .loop .inv) _ (c .refuse .ensures) (row-too-big _ _ _ _ _ (sym (number .int .ensures) ∙ c .before .enum-told2 .given .1))
+    row-so-far-stops (number .before .loop .inv) _ (c .refuse .ensures) (row-too-big _ _ _ _ _ (int-lined _ _ _ _ ∙ sym (number .int .ensures) ∙ c .before .enum-told2 .given .1))
 
 enum-known-v : tie.Need-enum-known-v Inv-loop μ-loop
 enum-known-v c = search needs
@@ -83,7 +85,7 @@ returns-4 c =
     let literal = c .before .before .before in
     let number = number-at literal in
     let inv = number .before .loop .inv in
-    row-so-far-stops inv _ (c .refuse2 .ensures) (row-full _ _ _ _ _ (sym (number .int .ensures) ∙ literal .v .given .1) (kept-full (inv .kept) (c .before .if2 .taken)))
+    row-so-far-stops inv _ (c .refuse2 .ensures) (row-full _ _ _ _ _ (int-lined _ _ _ _ ∙ sym (number .int .ensures) ∙ literal .v .given .1) (kept-full (inv .kept) (c .before .if2 .taken)))
 
 mul-v : tie.Need-mul-v Inv-loop μ-loop
 mul-v c = search needs
@@ -97,7 +99,7 @@ add-count c = search needs
 loop-less : tie.Need-loop-less Inv-loop μ-loop
 loop-less c =
     let literal = c .before .before .before in
-    takes-falls _ _ _ (sym (number-at literal .int .ensures) ∙ literal .v .given .1)
+    takes-falls _ _ _ (int-lined _ _ _ _ ∙ sym (number-at literal .int .ensures) ∙ literal .v .given .1)
 
 loop-again : tie.Need-loop-again Inv-loop μ-loop
 loop-again c =
@@ -106,7 +108,7 @@ loop-again c =
     let inv = number .before .loop .inv in
     let left = c .before .if2 .left in
     let z = literal-back (c .before) in
-    rw z (row-so-far-puts inv _ _ left (row-takes _ _ _ _ _ (sym (number .int .ensures) ∙ literal .v .given .1) (kept-room (inv .kept) left)))
+    rw z (row-so-far-puts inv _ _ left (row-takes _ _ _ _ _ (int-lined _ _ _ _ ∙ sym (number .int .ensures) ∙ literal .v .given .1) (kept-room (inv .kept) left)))
 
 pub ints-spec : {M : Type 1} → statement M
 ints-spec =

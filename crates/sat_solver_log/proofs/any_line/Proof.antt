@@ -21,7 +21,7 @@ interactive-strict-comment-requires c κs = search needs
 returns : tie.Need-returns
 returns c =
     let comment = c .before in
-    comment-line _ _ _ _ (comment .before .before .pre) _ (comment .interactive-strict-comment .ensures) (c .if1 .taken)
+    comment-line _ _ _ _ _ (comment .before .before .pre) _ (comment .interactive-strict-comment .ensures) (c .if1 .taken)
 
 value-start-requires : tie.Need-value-start-requires
 value-start-requires c κs = search needs
@@ -38,7 +38,7 @@ returns-2 c =
     let stands = read .before .before in
     let values = stands .before in
     let comment = comment-tried values in
-    value-line _ _ _ _ (comment .before .before .pre) _ (comment .interactive-strict-comment .ensures) (values .before .if1 .left) _ (values .value-start .ensures) (stands .if2 .taken) (read .value-line .ensures)
+    value-line _ _ _ _ _ (comment .before .before .pre) _ (comment .interactive-strict-comment .ensures) (values .before .if1 .left) _ (values .value-start .ensures) (stands .if2 .taken) (read .value-line .ensures)
 
 solution-start-requires : tie.Need-solution-start-requires
 solution-start-requires c κs = search needs
@@ -51,7 +51,7 @@ returns-3 c =
     let word = c .before .before in
     let values = values-tried word in
     let comment = comment-tried values in
-    solution-line _ _ _ _ (comment .before .before .pre) _ (comment .interactive-strict-comment .ensures) (values .before .if1 .left) _ (values .value-start .ensures) (word .before .if2 .left) _ (word .solution-start .ensures) (c .before .if3 .taken) (c .solution-line .ensures)
+    solution-line _ _ _ _ _ (comment .before .before .pre) _ (comment .interactive-strict-comment .ensures) (values .before .if1 .left) _ (values .value-start .ensures) (word .before .if2 .left) _ (word .solution-start .ensures) (c .before .if3 .taken) (c .solution-line .ensures)
 
 eof-requires : tie.Need-eof-requires
 eof-requires c κs = search needs
@@ -65,7 +65,7 @@ returns-4 c =
     let word = word-tried end in
     let values = values-tried word in
     let comment = comment-tried values in
-    last-line _ _ _ _ (comment .before .before .pre) _ (comment .interactive-strict-comment .ensures) (values .before .if1 .left) _ (values .value-start .ensures) (word .before .if2 .left) _ (word .solution-start .ensures) (end .before .if3 .left) (sym (end .eof .ensures) ∙ c .before .if4 .taken) (c .log-end .ensures)
+    last-line _ _ _ _ _ (comment .before .before .pre) _ (comment .interactive-strict-comment .ensures) (values .before .if1 .left) _ (values .value-start .ensures) (word .before .if2 .left) _ (word .solution-start .ensures) (end .before .if3 .left) (sym (end .eof .ensures) ∙ c .before .if4 .taken) (c .log-end .ensures)
 
 other-line-requires : tie.Need-other-line-requires
 other-line-requires c κs = search needs
@@ -76,7 +76,7 @@ returns-5 c =
     let word = word-tried end in
     let values = values-tried word in
     let comment = comment-tried values in
-    other-line _ _ _ _ (comment .before .before .pre) _ (comment .interactive-strict-comment .ensures) (values .before .if1 .left) _ (values .value-start .ensures) (word .before .if2 .left) _ (word .solution-start .ensures) (end .before .if3 .left) (sym (end .eof .ensures) ∙ c .before .if4 .left) (c .other-line .ensures)
+    other-line _ _ _ _ _ (comment .before .before .pre) _ (comment .interactive-strict-comment .ensures) (values .before .if1 .left) _ (values .value-start .ensures) (word .before .if2 .left) _ (word .solution-start .ensures) (end .before .if3 .left) (sym (end .eof .ensures) ∙ c .before .if4 .left) (c .other-line .ensures)
 
 pub any-line-spec : {M : Type 1} → statement M
 any-line-spec =

@@ -1,16 +1,18 @@
 -- `sat_solver_log::parse_log_as` meets its contract: what the log comes to stays the same over each line, and each is further on. Assumes nothing.
 use Prim.Native.Nat.{_-_}
 use lib.ListN.{length}
+use Rattle.dimacs.specs.Lined.{lined}
+use Rattle.dimacs.specs.Logs.{log}
 use Rattle.sat_solver_log.proofs.Runs.{LogSoFar, log-so-far-start, log-so-far-on, log-so-far-answered}
 use borrow.Author.Needs.{needs}
 use Rattle.sat_solver_log.proofs.parse_log_as.Statement.{statement}
 use Rattle.sat_solver_log.proofs.parse_log_as.Tie as tie
 
 abbrev Inv-loop : tie.InvT-loop
-Inv-loop text mode lits₀ reading₀ lits reading = LogSoFar text mode lits₀ lits reading
+Inv-loop text mode lits₀ reading₀ lits reading = LogSoFar (lined (mode .ends) text) (mode .rigor) lits₀ lits reading
 
 abbrev μ-loop : tie.MeasureT-loop
-μ-loop text mode lits₀ reading₀ lits reading = length text - reading .place
+μ-loop text mode lits₀ reading₀ lits reading = length (lined (mode .ends) text) - reading .place
 
 loop-holds : tie.Need-loop-holds Inv-loop μ-loop
 loop-holds c = log-so-far-start _ _ _
@@ -42,6 +44,7 @@ same-length : tie.Need-same-length Inv-loop μ-loop
 same-length c = search needs
 
 returns : tie.Need-returns Inv-loop μ-loop
+unfolding log
 returns c =
     let told = c .before in
     let line = told .before .before .before in

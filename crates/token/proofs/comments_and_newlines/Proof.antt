@@ -2,17 +2,19 @@
 use Prim.Native.Nat.{_-_}
 use mathlib.Core.Path.{_≡_, refl, sym, _∙_}
 use lib.ListN.{length}
+use Rattle.dimacs.specs.Lined.{lined}
 use Rattle.dimacs.specs.Tokens.{lines}
 use Rattle.dimacs.proofs.Lines.{lines-stop, lines-on}
+use Rattle.dimacs.proofs.LinedTokens.{blanks-lined}
 use borrow.Author.Needs.{needs}
 use Rattle.token.proofs.comments_and_newlines.Statement.{statement}
 use Rattle.token.proofs.comments_and_newlines.Tie as tie
 
 abbrev Inv-loop : tie.InvT-loop
-Inv-loop text at i₀ i = lines text i ≡ lines text at
+Inv-loop text ends at i₀ i = lines (lined ends text) i ≡ lines (lined ends text) at
 
 abbrev μ-loop : tie.MeasureT-loop
-μ-loop text at i₀ i = length text - i
+μ-loop text ends at i₀ i = length (lined ends text) - i
 
 loop-holds : tie.Need-loop-holds Inv-loop μ-loop
 loop-holds c = refl
@@ -27,10 +29,10 @@ skip-whitespace-requires : tie.Need-skip-whitespace-requires Inv-loop μ-loop
 skip-whitespace-requires c κs = search needs
 
 loop-less : tie.Need-loop-less Inv-loop μ-loop
-loop-less c = lines-on _ _ _ (c .before .before .line-past .ensures) (c .before .if1 .left) _ (c .skip-whitespace .ensures) .0
+loop-less c = lines-on _ _ _ (c .before .before .line-past .ensures) (c .before .if1 .left) _ (c .skip-whitespace .ensures ∙ sym (blanks-lined _ _ _)) .0
 
 loop-again : tie.Need-loop-again Inv-loop μ-loop
-loop-again c = lines-on _ _ _ (c .before .before .line-past .ensures) (c .before .if1 .left) _ (c .skip-whitespace .ensures) .1 ∙ c .before .before .before .loop .inv
+loop-again c = lines-on _ _ _ (c .before .before .line-past .ensures) (c .before .if1 .left) _ (c .skip-whitespace .ensures ∙ sym (blanks-lined _ _ _)) .1 ∙ c .before .before .before .loop .inv
 
 pub comments-and-newlines-spec : {M : Type 1} → statement M
 comments-and-newlines-spec =

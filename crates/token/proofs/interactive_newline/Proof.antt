@@ -1,7 +1,10 @@
 -- `token::interactive_newline` meets its contract, case by case. Assumes nothing.
 use Prim.Native.Nat.{_+_}
+use mathlib.Core.Logic.{⊎-elim}
 use mathlib.Core.Path.{sym}
-use Rattle.dimacs.proofs.Lines.{no-byte, line-end-LF, line-end-CRLF, line-end-no}
+use native.Mathlib.Omega.{arith}
+use Rattle.dimacs.proofs.Lines.{no-byte}
+use Rattle.token.proofs.Returns.{at-most-one, ends-LF, ends-CRLF, ends-return, ends-no}
 use borrow.Author.Needs.{needs}
 use Rattle.token.proofs.interactive_newline.Statement.{statement}
 use Rattle.token.proofs.interactive_newline.Tie as tie
@@ -13,7 +16,7 @@ add-result : tie.Need-add-result
 add-result c = search needs
 
 returns : tie.Need-returns
-returns c = sym (line-end-LF _ _ (c .if2 .taken))
+returns c = sym (ends-LF _ _ _ (c .if2 .taken))
 
 add-next : tie.Need-add-next
 add-next c = search needs
@@ -25,24 +28,33 @@ add-result-2 : tie.Need-add-result-2
 add-result-2 c = search needs
 
 returns-2 : tie.Need-returns-2
-returns-2 c = sym (line-end-CRLF _ _ (c .before .before .before .if3 .taken) (c .if5 .taken))
+returns-2 c = sym (ends-CRLF _ _ _ (c .before .before .before .if3 .taken) (c .if5 .taken))
+
+lone-return-requires : tie.Need-lone-return-requires
+lone-return-requires c κs = search needs
+
+add-result-3 : tie.Need-add-result-3
+add-result-3 c =
+    let at-if3 = c .before .before in
+    let a = at-if3 .before .before .before .before .before .args in
+    omega (arith, c .lone-return .ensures, at-most-one (a .ends))
 
 returns-3 : tie.Need-returns-3
-returns-3 c = let at-if3 = c .before .before .before in
-    sym (line-end-no _ _ (at-if3 .before .if2 .left) (λ _. c .if5 .left))
+returns-3 c =
+    let at-if4 = c .before in
+    let at-if3 = at-if4 .before in
+    let a = at-if3 .before .before .before .before .before .args in
+    let alone = ⊎-elim (λ w. w .2 .left) (λ w. no-byte (a .text .now) (a .at + 1) 9 (w .left)) (at-if4 .if4 .came) in
+    rw (c .lone-return .ensures) (sym (ends-return (a .ends) (a .text .now) (a .at) (at-if3 .if3 .taken) alone))
 
 returns-4 : tie.Need-returns-4
-returns-4 c = let at-if2 = c .before .before in
-    let a = at-if2 .before .before .before .args in
-    sym (line-end-no _ _ (at-if2 .if2 .left) (λ _. no-byte (a .text .now) (a .at + 1) 9 (c .if4 .left)))
+returns-4 c = sym (ends-no _ _ _ (c .before .if2 .left) (c .if3 .left))
 
 returns-5 : tie.Need-returns-5
-returns-5 c = sym (line-end-no _ _ (c .before .if2 .left) (λ h _. c .if3 .left h))
-
-returns-6 : tie.Need-returns-6
-returns-6 c = let a = c .before .args in
+returns-5 c =
+    let a = c .before .before .args in
     let gone = no-byte (a .text .now) (a .at) in
-    sym (line-end-no _ _ (gone 9 (c .if1 .left)) (λ h _. gone 12 (c .if1 .left) h))
+    sym (ends-no _ _ _ (gone 9 (c .if1 .left)) (gone 12 (c .if1 .left)))
 
 pub interactive-newline-spec : {M : Type 1} → statement M
 interactive-newline-spec =
@@ -55,7 +67,8 @@ interactive-newline-spec =
     shared-slice-read-if5
     add-result-2
     returns-2
+    lone-return-requires
+    add-result-3
     returns-3
     returns-4
-    returns-5
-    returns-6)
+    returns-5)

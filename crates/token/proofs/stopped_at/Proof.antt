@@ -1,7 +1,6 @@
 -- `token::stopped_at` meets its contract: each part has the word's bytes, and begins at the place or at the text's end. Assumes nothing.
 use mathlib.Core.Path.{refl, sym, _∙_}
 use native.Mathlib.Omega.{arith}
-use lib.ListN.{length}
 use Rattle.token.proofs.Stops.{stopped-at-word, stopped-at-line-end, stopped-at-end}
 use borrow.Author.Needs.{needs}
 use Rattle.token.proofs.stopped_at.Statement.{statement}
@@ -17,7 +16,7 @@ part-result-end : tie.Need-part-result-end
 part-result-end c = search needs
 
 returns : tie.Need-returns
-returns c = record { block = refl; offset = omega arith; bytes = stopped-at-end _ _ (search needs) (c .before .if1 .taken) }
+returns c = record { block = refl; offset = omega arith; bytes = stopped-at-end _ _ _ (search needs) (c .before .if1 .taken) }
 
 interactive-newline-requires : tie.Need-interactive-newline-requires
 interactive-newline-requires c κs = search needs
@@ -36,7 +35,7 @@ part-result-end-2 c = search needs
 
 returns-2 : tie.Need-returns-2
 returns-2 c = let at-if2 = c .before .before in
-    record { block = refl; offset = omega arith; bytes = stopped-at-word _ _ _ (c .before .word-end .ensures) (sym (at-if2 .before .interactive-newline .ensures) ∙ at-if2 .if2 .taken) }
+    record { block = refl; offset = omega arith; bytes = stopped-at-word _ _ _ _ (c .before .word-end .ensures) (sym (at-if2 .before .interactive-newline .ensures) ∙ at-if2 .if2 .taken) }
 
 sub-result-3 : tie.Need-sub-result-3
 sub-result-3 c = search needs
@@ -49,7 +48,7 @@ part-result-end-3 c = search needs
 
 returns-3 : tie.Need-returns-3
 returns-3 c = let at-if2 = c .before in
-    record { block = refl; offset = omega arith; bytes = stopped-at-line-end _ _ (search needs) (λ e. at-if2 .if2 .left (at-if2 .before .interactive-newline .ensures ∙ e)) }
+    record { block = refl; offset = omega arith; bytes = stopped-at-line-end _ _ _ (search needs) (λ e. at-if2 .if2 .left (at-if2 .before .interactive-newline .ensures ∙ e)) }
 
 pub stopped-at-spec : {M : Type 1} → statement M
 stopped-at-spec =

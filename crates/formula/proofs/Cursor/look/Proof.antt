@@ -2,6 +2,7 @@
 use mathlib.Core.Path.{ap, sym, _∙_}
 use Rattle.dimacs.specs.Tokens.{lines}
 use Rattle.formula.proofs.Looks.{looks-reached, looks-open}
+use Rattle.dimacs.proofs.LinedTokens.{blanks-lined}
 use borrow.Author.Needs.{needs}
 use Rattle.formula.proofs.Cursor.look.Statement.{statement}
 use Rattle.formula.proofs.Cursor.look.Tie as tie
@@ -21,7 +22,7 @@ no-clause-requires c κs = search needs
 returns : tie.Need-returns
 returns c =
     let asked = c .before .before in
-    let lines-are = asked .before .comments-and-newlines .ensures ∙ ap (lines _) (asked .before .before .skip-whitespace .ensures) in
+    let lines-are = asked .before .comments-and-newlines .ensures ∙ ap (lines _) (asked .before .before .skip-whitespace .ensures ∙ sym (blanks-lined _ _ _)) in
     looks-reached _ _ _ _ _ _ lines-are (sym (asked .reached .ensures) ∙ c .before .if1 .taken) (c .no-clause .ensures)
 
 absence-of-requires : tie.Need-absence-of-requires
@@ -38,7 +39,7 @@ returns-2 c =
     let read = c .before in
     let absence = read .before .before in
     let asked = absence .before .before in
-    let lines-are = asked .before .comments-and-newlines .ensures ∙ ap (lines _) (asked .before .before .skip-whitespace .ensures) in
+    let lines-are = asked .before .comments-and-newlines .ensures ∙ ap (lines _) (asked .before .before .skip-whitespace .ensures ∙ sym (blanks-lined _ _ _)) in
     looks-open _ _ _ _ _ _ lines-are (sym (asked .reached .ensures) ∙ absence .before .if1 .left) (absence .absence-of .ensures) (read .clause-at .ensures)
 
 pub look-spec : {M : Type 1} → statement M
