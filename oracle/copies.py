@@ -1,10 +1,10 @@
 #!/usr/bin/env python3
-"""Writes what crates/copy_cases must print, with the crate's writers and readers in place of ours, and in the 2022 form those of weighted2022.py.
+"""Writes what crates/copy_cases must print, with the crate's writers and readers in place of ours, and in the 2022 form those of second.py.
 
 Usage: copies.py >STDOUT
 
 The formulas are those of crates/copy_cases/src/main.rt. `oracle written` writes their lines, and `oracle` reads each text in
-both modes, with room for 1,024 literals.
+modes 0 and 1, with room for 1,024 literals. As no CR is written, modes 2 and 3 must say the same.
 """
 
 import os
@@ -13,13 +13,13 @@ import subprocess
 import sys
 
 import calls
-import weighted2022
+import second
 
 sys.path.append(str(pathlib.Path(__file__).resolve().parent.parent / "tools"))
 import frames
 
 PLAIN, WEIGHTED, GROUPED = FORMATS = range(3)
-WEIGHTED_2022 = weighted2022.FORMAT
+WEIGHTED_2022 = second.FORMAT
 HARD = 0
 CEILING = 2**31 - 1
 LARGEST = 2**64 - 1
@@ -68,7 +68,7 @@ def line(answer):
 
 
 def copied(format, header, clauses):
-    """A formula's text, and what is read of it in both modes."""
+    """A formula's text, and what is read of it in modes 0 and 1."""
     lines = [frames.call(format, frames.HEADER, calls.LONGEST_OUTPUT, header)] if header else []
     lines += [frames.call(format, frames.CLAUSE, calls.LONGEST_OUTPUT, (extra, 0, 0), lits) for extra, lits in clauses]
     text = b"".join(map(line, answers(lines, "written")))
@@ -79,14 +79,14 @@ def copied_in_2022(clauses):
     lines = []
     for extra, lits in clauses:
         kind = frames.HARD_CLAUSE if extra == HARD else frames.CLAUSE
-        (said,) = weighted2022.written(kind, calls.LONGEST_OUTPUT, (extra, 0, 0), lits)
+        (said,) = second.written(kind, calls.LONGEST_OUTPUT, (extra, 0, 0), lits)
         lines.append(line(said.encode()))
     text = b"".join(lines)
-    read = "".join(f"{said}\n" for said in weighted2022.transcript(text, 1024)).encode()
-    return text, read, read
+    return text, *("".join(f"{said}\n" for said in second.transcript(WEIGHTED_2022, mode, 1024, text)).encode() for mode in (0, 1))
 
 
 for format, header, clauses in FORMULAS:
     text, strict, lenient = copied_in_2022(clauses) if format == WEIGHTED_2022 else copied(format, header, clauses)
     name = {PLAIN: b"plain", WEIGHTED: b"weighted", GROUPED: b"grouped", WEIGHTED_2022: b"weighted2022"}[format]
-    sys.stdout.buffer.write(b"%s %d bytes\n%sstrict\n%slenient\n%s" % (name, len(text), text, strict, lenient))
+    read = b"strict\n%slenient\n%s" % (strict, lenient)
+    sys.stdout.buffer.write(b"%s %d bytes\n%s%scr\n%s" % (name, len(text), text, read, read))

@@ -67,5 +67,5 @@ for mode in 0, 1:
         for count in range(most + 1):
             for row in itertools.product(lines, repeat=count):
                 write(format, mode, 8, "".join(row))
-for format, mode in ((4, 2), (4, 255)) if WANTED == [4] else ((5, 0), (255, 1), (0, 2), (3, 255)):
+for format, mode in ((4, 4), (4, 255)) if WANTED == [4] else ((5, 0), (255, 1), (0, 4), (3, 255)):
     write(format, mode, 8, "1 0\n")

@@ -1,9 +1,9 @@
 #!/usr/bin/env python3
-"""The texts of document 01, and those of the 2022 weighted form, with their answers, written out by hand from the documents and not from any code.
+"""The texts of document 01, those of the 2022 weighted form, and texts with CR in every mode, with their answers, written out by hand from the documents and not from any code.
 
 Usage: paper.py DIRECTORY
 
-The frames go to DIRECTORY/stdin and the answers, as a transcript, to DIRECTORY/stdout; those of the 2022 form to DIRECTORY/2022/stdin and stdout.
+The frames go to DIRECTORY/stdin and the answers, as a transcript, to DIRECTORY/stdout; those of the 2022 form to DIRECTORY/2022, and those with CR to DIRECTORY/returns.
 
 Document 01's are the texts marked P, the others of "Texts on both sides", the listing's text, and the slips. A text is there in the format and mode that document 01 names for
 it. For a slip it names none: its text is there in every format and both modes, and so is the same slip in the form of a weighted text, a grouped text and a log. The verdict
@@ -18,7 +18,7 @@ sys.path.append(str(pathlib.Path(__file__).resolve().parent.parent / "tools"))
 import frames
 
 PLAIN, WEIGHTED, GROUPED, LOG, WEIGHTED_2022 = range(5)
-STRICT, LENIENT = range(2)
+STRICT, LENIENT, STRICT_CR, LENIENT_CR = range(4)
 
 # The room that the tray and the host calls have.
 ROOM = 1024
@@ -27,9 +27,10 @@ NONE = "header none"
 UNKNOWN = "verdict unknown", "literals"
 UNANSWERED = "verdict none", "literals"
 
-# Each case: format, mode, room, text, and the lines that must follow its `case N`. The second list has those of the 2022 form, which the crate has not.
+# Each case: format, mode, room, text, and the lines that must follow its `case N`. The second list has those of the 2022 form, the third those with CR; the crate has neither the form nor modes 2 and 3.
 CASES = []
 IN_2022 = []
+RETURNS = []
 
 
 def refused(number, place, k=0, word=b""):
@@ -50,6 +51,12 @@ def in_2022(text, *lines):
     """A text of the 2022 form, which has no header, and which the modes read alike."""
     for mode in STRICT, LENIENT:
         IN_2022.append((WEIGHTED_2022, mode, ROOM, text, (NONE, *lines)))
+
+
+def returns(text, lines, lines_cr, format=PLAIN):
+    """A text with what is said of it in modes 0 and 1, and in modes 2 and 3."""
+    for mode, said in (STRICT, lines), (LENIENT, lines), (STRICT_CR, lines_cr), (LENIENT_CR, lines_cr):
+        RETURNS.append((format, mode, ROOM, text, said))
 
 
 def slip(text, plain, weighted, grouped):
@@ -153,6 +160,27 @@ in_2022(b"cx", "end")
 in_2022(b"5 1 0", "clause 5: 1", "end")
 in_2022(b"18446744073709551615 0\n18446744073709551615 0", "clause 18446744073709551615:", "clause 18446744073709551615:", "end")
 
+# A lone CR, which ends a line in modes 2 and 3 alone.
+returns(b"1 0\r", (NONE, refused(5, 3, 1, b"\r")), (NONE, "clause 1", "end"))
+returns(b"1 0\r2 0\r", (NONE, refused(5, 3, 1, b"\r2")), (NONE, "clause 1", "clause 2", "end"))
+returns(b"1 0\r\n2 0", (NONE, "clause 1", "clause 2", "end"), (NONE, "clause 1", "clause 2", "end"))
+returns(b"c x\r1 0", (NONE, "end"), (NONE, "clause 1", "end"))
+returns(b"c x\r\r\n1 0", (NONE, "clause 1", "end"), (NONE, "clause 1", "end"))
+returns(b"1\r0", (NONE, refused(6, 1, 1, b"\r0")), (NONE, "clause 1", "end"))
+returns(b"p cnf 1 1\r1 0", (refused(5, 9, 0, b"\r1"),), ("header 1 1", "clause 1", "end"))
+returns(b"\r", (NONE, refused(9, 0, 0, b"\r")), (NONE, "end"))
+returns(b"1 0\r\r2 0", (NONE, refused(5, 3, 1, b"\r")), (NONE, "clause 1", "clause 2", "end"))
+returns(b"1\r\r", (NONE, refused(6, 1, 1, b"\r")), (NONE, refused(7, 3, 1)))
+returns(b"5\r1 0\r", (NONE, refused(8, 1, 0, b"\r1")), (NONE, "clause 5: 1", "end"), format=WEIGHTED)
+returns(b"h\r0", (NONE, refused(8, 1, 0, b"\r0")), (NONE, "clause h:", "end"), format=WEIGHTED_2022)
+returns(b"s SATISFIABLE\r", (refused(5, 13, 0, b"\r"),), ("verdict yes", "literals"), format=LOG)
+returns(b"c x\rs SATISFIABLE\r", UNANSWERED, ("verdict yes", "literals"), format=LOG)
+for mode, said in enumerate([refused(5, 9, 0, b"\rs")] * 2 + [refused(18, 10, 0, b"s")]):
+    RETURNS.append((LOG, mode, ROOM, b"s UNKNOWN\rs SATISFIABLE\r", (said,)))
+RETURNS.append((LOG, LENIENT_CR, ROOM, b"s UNKNOWN\rs SATISFIABLE\r", UNKNOWN))
+for mode, said in (STRICT_CR, [refused(15, 10, 0, b"2")]), (LENIENT_CR, ["clause 2", "end"]):
+    RETURNS.append((PLAIN, mode, ROOM, b"p cnf 1 1\r2 0\r", ("header 1 1", *said)))
+
 
 def write(directory, cases):
     os.makedirs(directory, exist_ok=True)
@@ -167,7 +195,8 @@ def main():
         sys.exit(__doc__)
     write(sys.argv[1], CASES)
     write(os.path.join(sys.argv[1], "2022"), IN_2022)
-    print(f"{len(CASES)} cases of document 01, {len(IN_2022)} of the 2022 form")
+    write(os.path.join(sys.argv[1], "returns"), RETURNS)
+    print(f"{len(CASES)} cases of document 01, {len(IN_2022)} of the 2022 form, {len(RETURNS)} with CR")
 
 
 if __name__ == "__main__":

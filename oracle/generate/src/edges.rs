@@ -10,7 +10,7 @@ const LONGEST: usize = 65_536;
 pub fn write(frames: &mut Frames) -> io::Result<()> {
     // Unknown formats and modes, with a text that would be refused for itself, and one too long.
     for format in 0..=255 {
-        for mode in [0, 1, 2, 3, 127, 128, 255] {
+        for mode in [0, 1, 4, 5, 127, 128, 255] {
             if format > 4 || mode > 1 {
                 frames.put(format, mode, AMPLE, b"x")?;
             }

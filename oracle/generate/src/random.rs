@@ -56,7 +56,7 @@ pub fn known(format: u8, rng: &mut Rng) -> u8 {
 pub fn any(rng: &mut Rng) -> (u8, u8) {
     match rng.below(1_000) {
         0 => (5 + rng.below(251) as u8, rng.below(256) as u8),
-        1 => (rng.below(4) as u8, 2 + rng.below(254) as u8),
+        1 => (rng.below(4) as u8, 4 + rng.below(252) as u8),
         _ => (rng.below(4) as u8, rng.below(2) as u8),
     }
 }
