@@ -201,7 +201,7 @@ fn check() {
     // More literals than there is room for, and a number of no mode.
     let wide = text("", 0, 1, 1_025, 9).made();
     assert_eq!(agreed(0, 0, &wide), 16);
-    assert_eq!(agreed(0, 2, &wide), 26);
+    assert_eq!(agreed(0, 4, &wide), 26);
     for text in TEXTS {
         assert_eq!(agreed(text.format, 0, &text.made()), 0, "{}", text.name);
     }

@@ -23,11 +23,13 @@ extern "C" {
 #define LATCHTWIG_WEIGHTED 1u      /* clauses with a weight each: `p wcnf V C top`, then `5 1 -2 0` */
 #define LATCHTWIG_GROUPED 2u       /* clauses with a group each: `p gcnf V C groups`, then `{3} 1 -2 0` */
 #define LATCHTWIG_LOG 3u           /* what a solver prints: `s SATISFIABLE`, then `v 1 -2 0` */
-#define LATCHTWIG_WEIGHTED_2022 4u /* hard clauses and soft ones with a weight each, by the rules of 2022: no header, `h 1 -2 0` and `5 1 -2 0`; both modes read alike */
+#define LATCHTWIG_WEIGHTED_2022 4u /* hard clauses and soft ones with a weight each, by the rules of 2022: no header, `h 1 -2 0` and `5 1 -2 0`; strict and lenient read alike */
 
-/* Modes. */
+/* Modes. A text whose lines end with CR alone needs one of the last two. In the others it is one comment if it begins with one, and so a formula without clauses. */
 #define LATCHTWIG_STRICT 0u
-#define LATCHTWIG_LENIENT 1u /* a header's counts are not applied; log lines of no known kind are passed over */
+#define LATCHTWIG_LENIENT 1u    /* a header's counts are not applied; log lines of no known kind are passed over */
+#define LATCHTWIG_STRICT_CR 2u  /* as strict, and a CR without LF ends a line too */
+#define LATCHTWIG_LENIENT_CR 3u /* as lenient, and a CR without LF ends a line too */
 
 /* The number of the refusal that the text comes to, or 0 if it is read to its end.
  *
@@ -54,7 +56,7 @@ extern "C" {
  *   32  a weight above 0 is expected
  *   33  no header is expected, as the 2022 form has none
  *
- * In the strict mode 9 is also what a wrong clause count comes to, other than 0, which is none: the place is the text's end if there are fewer clauses, and the first clause
+ * In the strict modes 9 is also what a wrong clause count comes to, other than 0, which is none: the place is the text's end if there are fewer clauses, and the first clause
  * beyond the count if there are more. With 26 nothing was read.
  */
 uint32_t latchtwig_refusal(uint32_t format, uint32_t mode, const uint8_t *text, size_t length);

@@ -1,10 +1,12 @@
 """Checks files in any format and mode.
 
-usage: tools/check [--list] FORMAT MODE [FILE...]    (FORMAT plain, weighted, grouped, log or weighted2022; MODE strict or lenient)
+usage: tools/check [--list] FORMAT MODE [FILE...]    (FORMAT plain, weighted, grouped, log or weighted2022; MODE strict, lenient, strict-cr or lenient-cr)
 
 For each FILE, or for standard input (`-`, or none named), one line says that it is accepted, a log with its verdict and what that means for the order, or how it is refused:
 the number, the place, and what is expected there. With --list what was read comes before it: the header and each clause, or the literals of a log. The program `reader_cases`
 reads the files; it is proved and built first.
+
+In the modes with -cr a CR without LF ends a line too. In the others a text with such lines is one comment if it begins with one, and is accepted as a formula without clauses.
 
 Exit status: 0 if every file is accepted, 1 if one is refused. It is 2 if the words are wrong, if a file cannot be read or has more than 65,536 bytes, if what is found
 cannot be written, or if `reader_cases` cannot be run; standard error then has a line that says so.
@@ -26,7 +28,7 @@ from refusals import NUMBERS, WORDS
 from solvers import ROOM, answers
 
 FORMATS = ["plain", "weighted", "grouped", "log", "weighted2022"]
-MODES = ["strict", "lenient"]
+MODES = ["strict", "lenient", "strict-cr", "lenient-cr"]
 
 # What a verdict means for the order.
 ORDER = {

@@ -22,8 +22,8 @@ HOST_CASE = struct.Struct("<III")
 CALL = struct.Struct("<BBIQQQI")
 HEADER, CLAUSE, HARD_CLAUSE = range(3)
 
-# A text for the tokens: its length in a byte, and the text; then place and limit.
-PLACE = struct.Struct("<QQ")
+# A text for the tokens: its length in a byte, and the text; then place, limit and whether a lone CR ends a line.
+PLACE = struct.Struct("<QQB")
 
 # A run of a tray: the length of its area, and the area; then calls, each a byte for its kind and its fields.
 AREA = struct.Struct("<I")
@@ -90,8 +90,8 @@ def calls(path):
             yield format, kind, length, numbers, struct.unpack(f"<{count}i", file.read(4 * count).ljust(4 * count, b"\0"))
 
 
-def token_case(text, place, limit):
-    return bytes([len(text)]) + text + PLACE.pack(place, limit)
+def token_case(text, place, limit, returns):
+    return bytes([len(text)]) + text + PLACE.pack(place, limit, returns)
 
 
 def tray_run(area, calls=()):

@@ -45,7 +45,7 @@ def unknown():
             for known in (0, 1):
                 yield n, known, text, UNKNOWN, 0
             for known in (0, 1, 2, 3, 4, 256):
-                yield known, 2 if n == 5 else n, text, UNKNOWN, 0
+                yield known, 4 if n == 5 else n, text, UNKNOWN, 0
 
 
 def full():

@@ -20,34 +20,36 @@ def blanks(s, at):
     return at
 
 
-def next_line(s, at):
-    if at >= len(s):
-        return at
-    found = s.find(b"\n", at)
-    return len(s) if found < 0 else found + 1
-
-
-def line_end(s, at):
-    for end in (b"\n", b"\r\n"):
+def line_end(s, at, returns):
+    for end in (b"\n", b"\r\n", b"\r")[:2 + returns]:
         if s[at:at + len(end)] == end:
             return at + len(end)
     return at
 
 
-def newline(s, at):
-    e = line_end(s, at)
+def next_line(s, at, returns):
+    while at < len(s):
+        e = line_end(s, at, returns)
+        if e != at:
+            return e
+        at += 1
+    return at
+
+
+def newline(s, at, returns):
+    e = line_end(s, at, returns)
     return at if e == at else blanks(s, e)
 
 
-def comment(s, at):
-    return blanks(s, next_line(s, at + 1)) if s[at:at + 1] == b"c" else at
+def comment(s, at, returns):
+    return blanks(s, next_line(s, at + 1, returns)) if s[at:at + 1] == b"c" else at
 
 
-def lines(s, at):
+def lines(s, at, returns):
     while True:
-        e = comment(s, at)
+        e = comment(s, at, returns)
         if e == at:
-            e = newline(s, at)
+            e = newline(s, at, returns)
         if e == at:
             return at
         at = e
@@ -91,22 +93,22 @@ def signed(s, at, limit):
     return f"{n}@{blanks(s, m.end())}" if abs(n) <= min(limit, CEILING) else "!"
 
 
-def answers(s, at, limit):
-    e = line_end(s, at)
+def answers(s, at, limit, returns):
+    e = line_end(s, at, returns)
     strict = fixed(s, at, b"c ")
-    broken = newline(s, at)
+    broken = newline(s, at, returns)
     row = [
         int(at >= len(s)),
         int(ends_word(s, at)),
         blanks(s, at),
-        next_line(s, at),
+        next_line(s, at, returns),
         e,
         at if at >= len(s) else e if e != at else "-",
         broken,
-        next_line(s, at + 1) if s[at:at + 1] == b"c" else e,
-        at if strict == at else next_line(s, strict),
-        lines(s, at),
-        at if broken == at else lines(s, broken),
+        next_line(s, at + 1, returns) if s[at:at + 1] == b"c" else e,
+        at if strict == at else next_line(s, strict, returns),
+        lines(s, at, returns),
+        at if broken == at else lines(s, broken, returns),
         strict,
         fixed(s, at, b"SATISFIABLE"),
         word(s, at, b"p"),
@@ -149,9 +151,10 @@ def main():
     n = 0
     with open(f"{where}/stdin", "wb") as given, open(f"{where}/stdout", "w") as said:
         for s, at, limit in cases():
-            given.write(frames.token_case(s, at, limit))
-            said.write(answers(s, at, limit))
-            n += 1
+            for returns in (0, 1) if b"\r" in s else (0,):
+                given.write(frames.token_case(s, at, limit, returns))
+                said.write(answers(s, at, limit, returns))
+                n += 1
     print(f"{n} cases")
 
 

@@ -23,7 +23,7 @@ import frames
 ROOT = pathlib.Path(__file__).resolve().parent.parent
 PLAIN, WEIGHTED, GROUPED, LOG, WEIGHTED_2022 = range(5)
 FORMATS = PLAIN, WEIGHTED, GROUPED, WEIGHTED_2022
-STRICT, LENIENT = range(2)
+STRICT, LENIENT, STRICT_CR, LENIENT_CR = MODES = range(4)
 CEILING = 2**31 - 1
 LARGEST = 2**64 - 1
 PLACES = 32
@@ -34,8 +34,9 @@ AREA = frames.LONGEST
 
 WORD_ENDS = rb"(?=[\t\n\r ]|\Z)[\t ]*"
 BLANKS = re.compile(rb"[\t ]*")
-LINE_END = re.compile(rb"\r?\n")
-COMMENT_OR_LINE_END = re.compile(rb"(?:c[^\n]*(?:\n|\Z)|\r?\n)[\t ]*")
+# Where a lone CR ends no line, and where it does.
+LINE_ENDS = re.compile(rb"\r?\n"), re.compile(rb"\r\n|\n|\r")
+COMMENTS_OR_LINE_ENDS = re.compile(rb"(?:c[^\n]*(?:\n|\Z)|\r?\n)[\t ]*"), re.compile(rb"(?:c[^\r\n]*(?:\r\n|\n|\r|\Z)|\r\n|\n|\r)[\t ]*")
 NUMBER = re.compile(rb"([0-9]+)" + WORD_ENDS)
 SIGNED = re.compile(rb"(-?[0-9]+)" + WORD_ENDS)
 BRACED = re.compile(rb"\{([0-9]+)\}[\t ]*")
@@ -51,34 +52,33 @@ class Refused(Exception):
         return "refused %d %d %d" % self.args
 
 
-def skipped(text, at):
-    """Past any comments and line ends."""
-    while found := COMMENT_OR_LINE_END.match(text, at):
-        at = found.end()
-    return at
-
-
-def closed(text, at, k):
-    """Past what closes a header or a clause."""
-    found = LINE_END.match(text, at)
-    if not found and at < len(text):
-        raise Refused(5, at, k)
-    return found.end() if found else at
-
-
 class Reader:
     """One text, whose bytes are lent anew at each call."""
 
     room = ROOM
 
     def __init__(self, format, mode):
-        self.format, self.mode = format, mode
+        self.format, self.strict = format, mode in (STRICT, STRICT_CR)
+        self.line_end, self.comment_or_line_end = LINE_ENDS[mode // 2], COMMENTS_OR_LINE_ENDS[mode // 2]
         self.place = 0
         self.literal_limit, self.group_limit, self.clause_limit = CEILING, LARGEST, 0
         self.count = 0
 
+    def skipped(self, text, at):
+        """Past any comments and line ends."""
+        while found := self.comment_or_line_end.match(text, at):
+            at = found.end()
+        return at
+
+    def closed(self, text, at, k):
+        """Past what closes a header or a clause."""
+        found = self.line_end.match(text, at)
+        if not found and at < len(text):
+            raise Refused(5, at, k)
+        return found.end() if found else at
+
     def open(self, text):
-        at = skipped(text, BLANKS.match(text).end())
+        at = self.skipped(text, BLANKS.match(text).end())
         found = self.format != WEIGHTED_2022 and P.match(text, at)
         if not found:
             self.place = at
@@ -97,8 +97,8 @@ class Reader:
                 raise Refused(too_big, at, 0)
             counts.append(int(found[1]))
             at = found.end()
-        self.place = closed(text, at, 0)
-        if self.mode == STRICT:
+        self.place = self.closed(text, at, 0)
+        if self.strict:
             self.literal_limit = counts[0] or CEILING
             self.clause_limit = counts[1]
             if self.format == GROUPED:
@@ -115,7 +115,7 @@ class Reader:
                 if words:
                     self.count += 1
                     return words
-            found = COMMENT_OR_LINE_END.match(text, at)
+            found = self.comment_or_line_end.match(text, at)
             if not found:
                 break
             at = found.end()
@@ -162,8 +162,8 @@ class Reader:
                 return None
             words.append(self.told(found, at))
             at = found.end()
-            if LINE_END.match(text, at):
-                at = skipped(text, at)
+            if self.line_end.match(text, at):
+                at = self.skipped(text, at)
             found = SIGNED.match(text, at)
             if not found:
                 raise Refused(8, at, 0)
@@ -177,13 +177,13 @@ class Reader:
             words.append(str(literal))
             k += 1
             at = found.end()
-            on_next_line = LINE_END.match(text, at)
+            on_next_line = self.line_end.match(text, at)
             if on_next_line:
-                at = skipped(text, at)
+                at = self.skipped(text, at)
             found = SIGNED.match(text, at)
             if not found:
                 raise Refused(7 if on_next_line else 6, at, k)
-        self.place = closed(text, found.end(), k)
+        self.place = self.closed(text, found.end(), k)
         return " ".join(words)
 
 
@@ -207,7 +207,7 @@ class Tray:
         self.given = 0
 
     def put(self, format, mode, start, length):
-        if format not in FORMATS or mode not in (STRICT, LENIENT):
+        if format not in FORMATS or mode not in MODES:
             return "put refused 26"
         if start + length > len(self.area):
             return "put refused 21"
@@ -503,7 +503,7 @@ def damaged(rng, text):
 
 
 def text(rng, format):
-    line_end = rng.choice([b"\n", b"\n", b"\n", b"\r\n"])
+    line_end = rng.choice([b"\n", b"\n", b"\n", b"\r\n", b"\r"])
     variables, groups, clauses = rng.randint(1, 30), rng.randint(1, 9), rng.choice([0, 1, 1, 2, 3, 4, 5, 8, 20])
     said = b"".join(note(rng) for _ in range(rng.choice([0, 0, 0, 1, 2])))
     if rng.random() < (0.02 if format == WEIGHTED_2022 else 0.65):
@@ -544,11 +544,11 @@ class Feeder:
     def put(self):
         rng, size = self.rng, len(self.tray.area)
         format, start, length = rng.choice(self.parts or [(rng.choice(FORMATS), 0, size)])
-        mode = rng.choice([STRICT, STRICT, LENIENT])
+        mode = rng.choice([STRICT, STRICT, LENIENT, STRICT_CR, LENIENT_CR])
         # A full tray is often put to with a second fault, so that the order of the tests is seen; so is an empty one asked for a turn.
         how = rng.random() * (0.2 if len(self.tray.waiting) == PLACES else 1)
         if how < 0.04:
-            format, mode = rng.choice([(LOG, STRICT), (255, mode), (format, 2), (format, 255), (5, mode), (5, 7)])
+            format, mode = rng.choice([(LOG, STRICT), (255, mode), (format, 4), (format, 255), (5, mode), (5, 7)])
         if how < 0.06 or how > 0.95:
             start, length = rng.choice([(size, 0), (size, 1), (size + 1, 0), (0, size), (0, size + 1), (LARGEST, 1), (1, LARGEST), (LARGEST, LARGEST), (2**32, 0)])
         elif how < 0.12:

@@ -3,11 +3,12 @@
 //!
 //!     queue [--header] FORMAT MODE FOLDER
 //!
-//! FORMAT is plain, weighted, grouped, log or weighted2022; MODE is strict or lenient. The orders are the regular files of FOLDER, taken in the order of their names. Names that
+//! FORMAT is plain, weighted, grouped, log or weighted2022; MODE is strict, lenient, strict-cr or lenient-cr. The orders are the regular files of FOLDER, taken in the order of their names. Names that
 //! begin with `.` or end in `.reason` are no orders: write an order under such a name, and rename it when it is whole. Folders are passed over.
 //!
-//! By the formats, a text without a header is a formula, also one of no bytes, as a copy that failed may leave it; and a header's count of 0 leaves it open how much
-//! follows. With `--header` such texts are refused too. Logs and texts of the 2022 form have no header.
+//! In the modes with `-cr` a CR without LF ends a line too. By the formats, a text without a header is a formula, also one of no bytes, as a copy that failed may leave it, and one that is all
+//! comment, as a text with such lines is in the other modes if it begins with a comment; and a header's count of 0 leaves it open how much follows. With `--header` such texts are refused too. Logs
+//! and texts of the 2022 form have no header.
 //!
 //! The program takes the orders that are there when it starts, and stops. An order that cannot be read or moved stays and is named on standard error, as is a link, a
 //! pipe or whatever else is no file. Exit status: 0 if nothing stayed, 1 if something did, 2 if the words are wrong or the folder cannot be used.
@@ -30,7 +31,7 @@ use std::path::{Path, PathBuf};
 use std::process::ExitCode;
 
 const USAGE: &str =
-    "usage: queue [--header] plain|weighted|grouped strict|lenient FOLDER, or queue log|weighted2022 strict|lenient FOLDER";
+    "usage: queue [--header] plain|weighted|grouped MODE FOLDER, or queue log|weighted2022 MODE FOLDER, where MODE is strict|lenient|strict-cr|lenient-cr";
 
 /// What the name of a reason ends in, and the name it has while it is written.
 const REASON: &str = ".reason";
@@ -83,6 +84,8 @@ fn asked(words: &[OsString]) -> Option<Queue> {
     let mode = match mode {
         "strict" => Mode::Strict,
         "lenient" => Mode::Lenient,
+        "strict-cr" => Mode::StrictCr,
+        "lenient-cr" => Mode::LenientCr,
         _ => return None,
     };
     Some(Queue {
@@ -195,7 +198,7 @@ impl Queue {
     fn judged(&self, text: &[u8]) -> Result<(), Why> {
         check(self.format, self.mode, text).map_err(Why::Text)?;
         if self.header {
-            header_counts(self.format, text).map_err(Why::Header)?;
+            header_counts(self.format, self.mode, text).map_err(Why::Header)?;
         }
         Ok(())
     }
@@ -203,14 +206,14 @@ impl Queue {
 
 /// Whether a text that was read to its end has a header, and that no count of 0. The reader itself tells where a header is: in another format it refuses a text that
 /// has one, and no other, with 1, at the word after `p`. The header was read, so the words from there on are the format's, and then its counts.
-fn header_counts(format: Format, text: &[u8]) -> Result<(), &'static str> {
+fn header_counts(format: Format, mode: Mode, text: &[u8]) -> Result<(), &'static str> {
     let (another, counts) = match format {
         Format::Plain => (Format::Grouped, 2),
         Format::Weighted => (Format::Plain, 2),
         Format::Grouped => (Format::Plain, 3),
         Format::Log | Format::Weighted2022 => return Ok(()),
     };
-    let place = match check(another, Mode::Lenient, text) {
+    let place = match check(another, mode, text) {
         Err(Refusal { number: 1, place }) => place,
         _ => return Err("a header is expected"),
     };

@@ -35,7 +35,7 @@ pub enum Format {
     Grouped = 2,
     /// What a solver prints: `s SATISFIABLE`, then `v 1 -2 0`.
     Log = 3,
-    /// Hard clauses and soft ones with a weight each, by the rules of 2022: no header, then `h 1 -2 0` and `5 1 -2 0`. Both modes read alike.
+    /// Hard clauses and soft ones with a weight each, by the rules of 2022: no header, then `h 1 -2 0` and `5 1 -2 0`. Strict and lenient read alike.
     Weighted2022 = 4,
 }
 
@@ -47,6 +47,10 @@ pub enum Mode {
     Strict = 0,
     /// A header is read but its counts are not applied, and log lines of no permitted kind are passed over.
     Lenient = 1,
+    /// As [`Mode::Strict`], and a CR without LF ends a line too. Without this a text of such lines is one comment if it begins with one, and so a formula without clauses.
+    StrictCr = 2,
+    /// As [`Mode::Lenient`], and a CR without LF ends a line too.
+    LenientCr = 3,
 }
 
 /// Why a text was refused, and where.
@@ -130,7 +134,7 @@ pub fn check(format: Format, mode: Mode, text: &[u8]) -> Result<(), Refusal> {
     check_by_number(format as u32, mode as u32, text)
 }
 
-/// The same by numbers that come from elsewhere: formats 0 to 4 and modes 0 and 1, in the order of [`Format`] and [`Mode`]. Others are refusal 26 at place 0.
+/// The same by numbers that come from elsewhere: formats 0 to 4 and modes 0 to 3, in the order of [`Format`] and [`Mode`]. Others are refusal 26 at place 0.
 ///
 /// ```
 /// assert_eq!(latchtwig::check_by_number(256, 0, b"1 0\n").unwrap_err().number, 26);

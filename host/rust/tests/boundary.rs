@@ -11,7 +11,7 @@ const FORMATS: [Format; 5] = [
     Format::Log,
     Format::Weighted2022,
 ];
-const MODES: [Mode; 2] = [Mode::Strict, Mode::Lenient];
+const MODES: [Mode; 4] = [Mode::Strict, Mode::Lenient, Mode::StrictCr, Mode::LenientCr];
 const MEGABYTE: usize = 1 << 20;
 const BUFFER_FULL: u32 = 16;
 

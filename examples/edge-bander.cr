@@ -1,0 +1,1 @@
+c Order 12 from the edge bander in hall 2: its lines end with CR alonecc  1 oak edges         3 rounded cornersc  2 white edges       4 tape of 2 mmcp cnf 4 4c Edges are oak or white, and not both.1 2 0-1 -2 0c Rounded corners take thick tape,-3 4 0c which there is in white only.-42 0
