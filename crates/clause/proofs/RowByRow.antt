@@ -1,4 +1,4 @@
--- The loop over the rows of a clause: the literals read so far stand at the laid-first of the buffer, and what is read from here on is what is read from
+-- The loop over the rows of a clause: the literals read so far stand first in the buffer, and what is read from here on is what is read from
 -- the start. Assumes nothing.
 use Prim.Native.Nat.{ℕ, _-_, _≤_, _<_}
 use mathlib.Core.List.{List, [], _∷_, _++_}

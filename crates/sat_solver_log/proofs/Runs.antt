@@ -33,7 +33,7 @@ parses-fit {d} {old} {new} p g =
     let so = logLeaves d in
     subst (λ x. kIn x ≤ length new) (sym (p .answer) ∙ g) (rw (p .buffer, log-k-left d) (omega (arith, length-append so (drop (length so) old))))
 
--- The literals so far stand at the laid-first of the buffer, and the log from here on is the log from the start.
+-- The literals so far stand first in the buffer, and the log from here on is the log from the start.
 pub record LogSoFar (s : List ℕ) (rigor : Rigor) (old lits : List ℤ) (x : Reading) : Type 0 where
   pub kept : Kept old lits (x .count)
   pub so-far : def.logFrom s rigor (length old) def.logBegin ≡ def.logFrom s rigor (length old) (logStateOf x (take (x .count) lits))
