@@ -4,7 +4,7 @@
 Usage: limits.py [2022] >FRAMES
 
 They are those of the formats that flussab-cnf has, or of the 2022 weighted form. Each number of a text has a place, marked # below. It is given every value around every limit, with and
-without leading zeros, followed by a blank or by a letter, in both modes. Rooms go from none to more than is
+without leading zeros, followed by a blank or by a letter, in modes 0 and 1. Rooms go from none to more than is
 needed, and words that a reader stops at from 59 bytes to 62. Lines of each format come in every order, two of
 a formula and three of a log.
 """

@@ -6,7 +6,7 @@ Usage: paper.py DIRECTORY
 The frames go to DIRECTORY/stdin and the answers, as a transcript, to DIRECTORY/stdout; those of the 2022 form to DIRECTORY/2022, and those with CR to DIRECTORY/returns.
 
 Document 01's are the texts marked P, the others of "Texts on both sides", the listing's text, and the slips. A text is there in the format and mode that document 01 names for
-it. For a slip it names none: its text is there in every format and both modes, and so is the same slip in the form of a weighted text, a grouped text and a log. The verdict
+it. For a slip it names none: its text is there in every format in modes 0 and 1, and so is the same slip in the form of a weighted text, a grouped text and a log. The verdict
 of a log without a solution line is that of document 02.
 """
 

@@ -11,7 +11,7 @@ line, since cryptominisat5 takes no other; what the solver prints is read by the
 - the literals are those of its `v` lines, as Python finds them;
 - where the verdict is yes, every clause has a listed literal.
 
-Each solver is also made to give up on a pigeonhole, and killed over a larger one. Of such a log it is checked, in both modes, that it is unknown if its first line that begins with
+Each solver is also made to give up on a pigeonhole, and killed over a larger one. Of such a log it is checked, strictly and leniently, that it is unknown if its first line that begins with
 `s ` is `s UNKNOWN`, none if no line begins so, and else refused with 17.
 
 The lenient mode reads the log as it is. Where the strict mode refuses a line, the line is recorded, taken out, and the log read again. At the
