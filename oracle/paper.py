@@ -175,6 +175,7 @@ returns(b"5\r1 0\r", (NONE, refused(8, 1, 0, b"\r1")), (NONE, "clause 5: 1", "en
 returns(b"h\r0", (NONE, refused(8, 1, 0, b"\r0")), (NONE, "clause h:", "end"), format=WEIGHTED_2022)
 returns(b"s SATISFIABLE\r", (refused(5, 13, 0, b"\r"),), ("verdict yes", "literals"), format=LOG)
 returns(b"c x\rs SATISFIABLE\r", UNANSWERED, ("verdict yes", "literals"), format=LOG)
+returns(b"s UNKNOWN\r\n", UNKNOWN, UNKNOWN, format=LOG)
 for mode, said in enumerate([refused(5, 9, 0, b"\rs")] * 2 + [refused(18, 10, 0, b"s")]):
     RETURNS.append((LOG, mode, ROOM, b"s UNKNOWN\rs SATISFIABLE\r", (said,)))
 RETURNS.append((LOG, LENIENT_CR, ROOM, b"s UNKNOWN\rs SATISFIABLE\r", UNKNOWN))

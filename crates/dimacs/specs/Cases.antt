@@ -226,7 +226,7 @@ inModes k q e₀ e₁ e₂ e₃ =
 abbrev byLineEnds : String → List Line → List Line → List Case
 byLineEnds q e₀ e₂ = inModes (Formula Plain) q e₀ e₀ e₂ e₂
 
--- Texts with CR. The last shows a count that mode 2 applies and mode 3 does not.
+-- Texts with CR. The last two show that CR LF is one line end, since no line of a log is empty, and a count that mode 2 applies and mode 3 does not.
 abbrev pub returns : List Case
 returns =
     byLineEnds "1 0\r" (NoHeader ∷ Refused 5 3 1 ∷ []) (NoHeader ∷ Clause 0 (pos 1 ∷ []) ∷ End ∷ [])
@@ -240,6 +240,7 @@ returns =
     ++ byLineEnds "1 0\r\r2 0" (NoHeader ∷ Refused 5 3 1 ∷ []) (NoHeader ∷ Clause 0 (pos 1 ∷ []) ∷ Clause 0 (pos 2 ∷ []) ∷ End ∷ [])
     ++ inModes Log "s UNKNOWN\rs SATISFIABLE\r" (Refused 5 9 0 ∷ []) (Refused 5 9 0 ∷ []) (Refused 18 10 0 ∷ []) (Says Unknown [] ∷ [])
     ++ inModes Log "c x\rjunk\rs SATISFIABLE\r" (Says None [] ∷ []) (Says None [] ∷ []) (Refused 18 4 0 ∷ []) (Says Yes [] ∷ [])
+    ++ inModes Log "s UNKNOWN\r\n" (Says Unknown [] ∷ []) (Says Unknown [] ∷ []) (Says Unknown [] ∷ []) (Says Unknown [] ∷ [])
     ++ inModes (Formula Plain) "p cnf 1 1\r2 0\r" (Refused 5 9 0 ∷ []) (Refused 5 9 0 ∷ []) (Header 1 1 0 ∷ Refused 15 10 0 ∷ []) (Header 1 1 0 ∷ Clause 0 (pos 2 ∷ []) ∷ End ∷ [])
 
 pub returns-hold : Hold returns
