@@ -175,7 +175,7 @@ case(b"\xff\x00\t", NONE, refused(9, 0, 0, b"\xff\x00"))
 
 # Unknown formats and modes.
 case(b"1 0", refused(26, 0), format=5)
-case(b"1 0", refused(26, 0), mode=2)
+case(b"1 0", refused(26, 0), mode=4)
 case(b"", refused(26, 0), format=255, mode=255)
 
 # The longest text, and one that is too long.
