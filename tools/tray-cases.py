@@ -409,12 +409,27 @@ class ShortH(Reader):
 LOOSE_H = re.compile(rb"h[\t ]*")
 
 
+class ReturnEndsNoLine(Reader):
+    """A lone CR ends a line in no mode."""
+
+    def __init__(self, format, mode):
+        super().__init__(format, mode % 2)
+
+
+class ReturnLenient(Reader):
+    """Mode 2 applies no counts."""
+
+    def __init__(self, format, mode):
+        super().__init__(format, mode)
+        self.strict = mode == STRICT
+
+
 def reading(wrong):
     return type(wrong.__name__, (Tray,), {"__doc__": wrong.__doc__, "reader": wrong})
 
 
 SLIPS = [FrontAgain, BehindOne, TicketReused, LastTakesItsPlace, FullFirst, BufferFirst, WholeArea, RefusedStays, OldArea]
-SLIPS += map(reading, [WideRoom, ZeroCount, ZeroCloses, ZeroWeight, NoClauseForHeader, ShortH])
+SLIPS += map(reading, [WideRoom, ZeroCount, ZeroCloses, ZeroWeight, NoClauseForHeader, ShortH, ReturnEndsNoLine, ReturnLenient])
 
 # ---- random texts and calls
 
