@@ -226,7 +226,7 @@ inModes k q e₀ e₁ e₂ e₃ =
 abbrev byLineEnds : String → List Line → List Line → List Case
 byLineEnds q e₀ e₂ = inModes (Formula Plain) q e₀ e₀ e₂ e₂
 
--- Texts with CR. The last two show that CR LF is one line end, since no line of a log is empty, and a count that mode 2 applies and mode 3 does not.
+-- Texts with CR. The last two show that CR LF is one line end, since a log read strictly has no empty line, and a count that mode 2 applies and mode 3 does not.
 abbrev pub returns : List Case
 returns =
     byLineEnds "1 0\r" (NoHeader ∷ Refused 5 3 1 ∷ []) (NoHeader ∷ Clause 0 (pos 1 ∷ []) ∷ End ∷ [])
