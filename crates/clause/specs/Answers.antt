@@ -5,7 +5,10 @@ use mathlib.Core.Path.{_≡_}
 use lib.ListN.{length}
 use lib.IntN.{ℤ}
 use Rattle.dimacs.specs.Buffers.{laid}
+use Rattle.dimacs.specs.Names.{refusedSpot}
+use Rattle.dimacs.specs.Spots.{nowhere}
 use Rattle.dimacs.specs.Clauses as def
+use Rattle.dimacs.specs.declared.Spot.{Spot}
 use Rattle.clause.specs.declared.Literals.{Literals}
 use Rattle.clause.specs.declared.Literals.the-variants.{Nothing, Closed, Stopped}
 use Rattle.clause.specs.declared.Next.{Next}
@@ -52,6 +55,12 @@ abbrev pub placeIn : Next → ℕ
 placeIn (next.Clause extra n) = 0
 placeIn next.Ended = 0
 placeIn (next.Refused r n) = r .place
+
+-- Line and column of the refusal, 0 and 0 where nothing is refused.
+abbrev pub spotIn : Next → Spot
+spotIn (next.Clause extra n) = nowhere
+spotIn next.Ended = nowhere
+spotIn (next.Refused r n) = refusedSpot r
 
 -- k, how many literals were read.
 abbrev pub kIn : Next → ℕ

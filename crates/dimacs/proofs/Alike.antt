@@ -7,9 +7,12 @@ use mathlib.Core.Path.{_≡_, refl, ap, sym, _∙_}
 use native.Mathlib.Omega.{arith}
 use borrow.Author.Tests.{lt-ltb, eqb-true, eqb-false, ltb-false}
 use lib.Dec.{ltb, eqb}
-use lib.ListN.{length, getD}
-use Rattle.dimacs.specs.Bytes.{isBlank, isNotLF}
+use lib.ListN.{length, getD, take, length-take}
+use lib.Seq.{ext-getD, getD-take}
+use Rattle.dimacs.specs.Bytes.{isBlank, isNotLF, isNotStop}
+use Rattle.dimacs.specs.Names.{numbered}
 use Rattle.dimacs.specs.Tokens.{past, unmoved, byteAt, blanks, lineEnd, nextLine, newline, linePast, lines, linebreaks}
+use Rattle.dimacs.specs.Seen.{wordSeen}
 use Rattle.dimacs.proofs.Tests.{tested}
 use Rattle.dimacs.proofs.Past.{past-more, past-stop}
 use Rattle.dimacs.proofs.Spans.{past-spans, lines-spans, blanks-spans, newline-spans}
@@ -35,6 +38,18 @@ module _ {n : ℕ} {s t : List ℕ} (a : Alike n s t) where
   -- A run that ends before the n-th byte ends there.
   pub past-same : (p : ℕ → Bool) (at : ℕ) → past p s at < n → past p t at ≡ past p s at
   past-same p at = past-by p (suc (n - at)) at (omega arith)
+
+  take-same : (at : ℕ) → at ≤ n → take at t ≡ take at s
+  take-same at h =
+      ext-getD 0 (take at t) (take at s) (omega (arith, a .first, a .second, length-take at s, length-take at t))
+      (λ i k.
+      let l : i < at = omega (arith, length-take at t) in
+      getD-take at t i 0 l ∙ a .same i (omega arith) ∙ sym (getD-take at s i 0 l))
+
+  -- A refusal is the same if the word at its place is seen: its line and its column hang on the bytes before that place.
+  pub numbered-same : (number at : ℕ) → wordSeen s at ≤ n → numbered t number at ≡ numbered s number at
+  unfolding numbered
+  numbered-same number at h = rw (take-same at (omega (arith, past-spans s at isNotStop)))
 
   pub blanks-same : (at : ℕ) → blanks s at < n → blanks t at ≡ blanks s at
   blanks-same at = past-same isBlank at

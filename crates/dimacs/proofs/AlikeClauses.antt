@@ -23,6 +23,7 @@ use Rattle.dimacs.specs.declared.Final.{Final}
 use Rattle.dimacs.specs.declared.Final.the-variants as final
 use Rattle.dimacs.specs.declared.Format.{Format}
 use Rattle.dimacs.specs.declared.Format.the-variants.{Plain, Weighted, Grouped, Weighted2022}
+use Rattle.dimacs.specs.declared.Instead.the-variants.{Refused}
 use Rattle.dimacs.specs.declared.Limits.{Limits}
 use Rattle.dimacs.specs.declared.Progress.{Progress}
 use Rattle.dimacs.specs.declared.Uint.{Uint}
@@ -30,11 +31,14 @@ use Rattle.dimacs.specs.declared.Uint.the-variants as uint
 use Rattle.dimacs.proofs.Tests.{tested}
 use Rattle.dimacs.proofs.Spans.{past-spans, lines-spans, linebreaks-spans, UintMoves, uint-moves, braced-uint-moves}
 use Rattle.dimacs.proofs.WordEnds.{word-moved, NoLFBefore}
-use Rattle.dimacs.proofs.Alike.{Alike, blanks-same, lines-same, linebreaks-same}
-use Rattle.dimacs.proofs.AlikeWords.{word-stands-same, word-same, EndSeen, end-same, UintSeen, zero-same, uint-follows, braced-uint-follows}
+use Rattle.dimacs.proofs.Alike.{Alike, numbered-same, blanks-same, lines-same, linebreaks-same}
+use Rattle.dimacs.proofs.AlikeWords.{word-stands-same, word-same, EndSeen, line-ends-same, end-same, UintSeen, zero-same, uint-follows, braced-uint-follows}
 use Rattle.dimacs.proofs.AlikeRows.{LiteralsFollow, literals-same}
 
 module _ {n : ℕ} {s t : List ℕ} (a : Alike n s t) where
+  refused-same : (number at : ℕ) → wordSeen s at ≤ n → instead (Refused (numbered t number at)) ≡ instead (Refused (numbered s number at))
+  refused-same number at h = ap (λ r. instead (Refused r)) (numbered-same a number at h)
+
   absent-same : (absence : Absence) (at : ℕ) → answerSeen s (instead (absent s absence at)) ≤ n
       → (wordSeen s at ≤ n) × (instead (absent t absence at) ≡ instead (absent s absence at))
   unfolding absent numbered
@@ -43,14 +47,17 @@ module _ {n : ℕ} {s t : List ℕ} (a : Alike n s t) where
       (λ e. let k : at + 1 ≤ n = rw e at h in absurd (omega (arith, leb-true (length s) at e)))
       (λ e.
       let k : wordSeen s at ≤ n = rw e at h in
-      (k, rw (e, lt-leb (length t) at (omega (arith, past-spans s at isNotStop)))))
-  absent-same NoClause at h = (h, refl)
-  absent-same NoLiterals at h = (h, refl)
+      (k, rw (e, lt-leb (length t) at (omega (arith, past-spans s at isNotStop))) (refused-same _ at k)))
+  absent-same NoClause at h = (h, refused-same _ at h)
+  absent-same NoLiterals at h = (h, refused-same _ at h)
 
   closing-same : (extra at : ℕ) (so : List ℤ) → NoLFBefore s at → answerSeen s (closing s extra at so) ≤ n
       → (at < n) × (closing t extra at so ≡ closing s extra at so)
   unfolding closing numbered
-  closing-same extra at so h k = let q = end-same a at h (go (endOfLine s at) k) in (q .0, rw (q .1))
+  closing-same extra at so h k =
+      let l = go (endOfLine s at) k in
+      let q = end-same a at h l in
+      (q .0, rw (q .1) (line-ends-same a _ at (says (clause extra so)) (λ r. says (refused r so) at) (endOfLine s at) l))
     where
       go : (x : EndOfLine) → answerSeen s (lineEnds x (says (clause extra so)) (says (refused (refusal s Reason.lineEndExpected at) so) at)) ≤ n → EndSeen n s at x
       go end.Missing k = k
@@ -83,7 +90,7 @@ module _ {n : ℕ} {s t : List ℕ} (a : Alike n s t) where
     start-same big absence at uint.Missing u′ m f k =
         let q = absent-same absence at k in
         (omega (arith, past-spans s at isNotStop, q .0), rw (f (q .0)) (q .1))
-    start-same big absence at uint.TooBig u′ m f k = (omega (arith, past-spans s at isNotStop), rw (f k))
+    start-same big absence at uint.TooBig u′ m f k = (omega (arith, past-spans s at isNotStop), rw (f k) (refused-same big at k))
     start-same big absence at (uint.Value extra e) u′ m f k =
         let q = from-same extra (linebreaks s e) NoLiterals k in
         let l = linebreaks-spans s e in
@@ -107,7 +114,7 @@ module _ {n : ℕ} {s t : List ℕ} (a : Alike n s t) where
         tested (isZero u)
         (λ y.
         let l : wordSeen s at ≤ n = rw y at k in
-        (omega (arith, past-spans s at isNotStop), rw (zero-same a largest at l, y)))
+        (omega (arith, past-spans s at isNotStop), rw (zero-same a largest at l, y) (refused-same _ at l)))
         (λ y.
         let l : answerSeen s (clauseBy s limits room (startBy s big absence at u)) ≤ n = rw y at k in
         let q = start-same big absence at u u′ (uint-moves s largest at) (uint-follows a largest at) l in
@@ -136,7 +143,7 @@ module _ {n : ℕ} {s t : List ℕ} (a : Alike n s t) where
         (λ y.
         let l : wordSeen s at ≤ n = rw y at k in
         let o = past-spans s at isNotStop in
-        (omega arith, rw (word-stands-same a p at (refl, tt) (omega arith), y)))
+        (omega arith, rw (word-stands-same a p at (refl, tt) (omega arith), y) (refused-same _ at l)))
 
     clause-at-same : (f : Format) (absence : Absence) (at : ℕ) → answerSeen s (clauseAt s limits room f absence at) ≤ n
         → (at + 2 ≤ n) × (clauseAt t limits room f absence at ≡ clauseAt s limits room f absence at)

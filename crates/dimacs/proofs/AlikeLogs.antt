@@ -27,7 +27,7 @@ use Rattle.dimacs.proofs.Words.{fixed-no, fixed-is}
 use Rattle.dimacs.proofs.Rows.{RowSpans, row-spans}
 use Rattle.dimacs.proofs.Logs.{LineLeads, log-line-leads, log-step}
 use Rattle.dimacs.proofs.WordEnds.{NoStops, begins-run, no-word-at-line-end}
-use Rattle.dimacs.proofs.Alike.{Alike, blanks-same, line-end-same, next-line-same}
+use Rattle.dimacs.proofs.Alike.{Alike, numbered-same, blanks-same, line-end-same, next-line-same}
 use Rattle.dimacs.proofs.AlikeWords.{all-fixed-same, fixed-same}
 use Rattle.dimacs.proofs.AlikeRows.{row-reach, RowFollows, row-same}
 
@@ -36,6 +36,10 @@ abbrev pub StepSeen : ℕ → List ℕ → Step Log LogAnswer → Type 0
 StepSeen n s = Leads (λ l. l .at + 2 ≤ n) (λ x. logSeen s x ≤ n)
 
 module _ {n : ℕ} {s t : List ℕ} (a : Alike n s t) where
+  refused-log-same : (number at : ℕ) (so : List ℤ) → wordSeen s at ≤ n
+      → _≡_ {A = Step Log LogAnswer} (answer (refusedLog (numbered t number at) so)) (answer (refusedLog (numbered s number at) so))
+  refused-log-same number at so h = ap (λ r. answer (refusedLog r so)) (numbered-same a number at h)
+
   line-read-same : (at : ℕ) (verdict : Verdict) (g : Assignment) (so : List ℤ) → StepSeen n s (lineRead s at verdict g so)
       → (wordSeen s at ≤ n) × (lineRead t at verdict g so ≡ lineRead s at verdict g so)
   unfolding endOfLine numbered
@@ -47,7 +51,7 @@ module _ {n : ℕ} {s t : List ℕ} (a : Alike n s t) where
       (λ z.
       let q : wordSeen s at ≤ n = rw (y, z) at k in
       let l : at + 2 ≤ n = omega (arith, past-spans s at isNotStop) in
-      (q, rw (y, lt-leb (length t) at (omega arith), line-end-same a at l, z)))
+      (q, rw (y, lt-leb (length t) at (omega arith), line-end-same a at l, z) (refused-log-same _ at so q)))
       (λ z.
       let q : e + 2 ≤ n = rw (y, z) at k in
       let u = eqb-false e at z in
@@ -103,7 +107,7 @@ module _ {n : ℕ} {s t : List ℕ} (a : Alike n s t) where
         solution-is-same _ _ satisfiable _ _
         (solution-is-same _ _ (refl, (refl, satisfiable)) _ _
         (solution-is-same _ _ (refl, (refl, (refl, (refl, (refl, (refl, (refl, tt))))))) _ _
-        (λ h. (h, refl))))
+        (λ h. (h, refused-log-same _ at (r .so) h))))
         k .1
       where
         satisfiable : NoStops (bytes "SATISFIABLE")
@@ -126,7 +130,7 @@ module _ {n : ℕ} {s t : List ℕ} (a : Alike n s t) where
 
   other-line-same : (rigor : Rigor) (r : Log) → StepSeen n s (otherLine s rigor r) → otherLine t rigor r ≡ otherLine s rigor r
   unfolding numbered
-  other-line-same Strict r k = refl
+  other-line-same Strict r k = refused-log-same _ (r .at) (r .so) k
   other-line-same Lenient r k = rw (next-line-same a (r .at) (omega arith))
 
   module _ (rigor : Rigor) (room : ℕ) where

@@ -1,7 +1,7 @@
 -- Two texts with the same first bytes open in the same way if their opening is settled by them. Assumes nothing.
 use Prim.Native.Nat.{ℕ, _+_, _≤_, _<_}
 use mathlib.Core.List.{List}
-use mathlib.Core.Path.{_≡_, refl}
+use mathlib.Core.Path.{_≡_, refl, ap}
 use native.Mathlib.Omega.{arith}
 use borrow.Author.Tests.{eqb-true}
 use Rattle.dimacs.specs.Bytes.{bytes, isNotStop}
@@ -21,8 +21,8 @@ use Rattle.dimacs.specs.declared.Uint.the-variants as uint
 use Rattle.dimacs.proofs.Tests.{tested}
 use Rattle.dimacs.proofs.Spans.{past-spans, lines-spans, UintMoves, uint-moves}
 use Rattle.dimacs.proofs.WordEnds.{word-moved, NoStops, NoLFBefore, UintEnds, uint-ends}
-use Rattle.dimacs.proofs.Alike.{Alike, blanks-same, lines-same}
-use Rattle.dimacs.proofs.AlikeWords.{word-same, EndSeen, end-same, UintSeen, uint-follows}
+use Rattle.dimacs.proofs.Alike.{Alike, numbered-same, blanks-same, lines-same}
+use Rattle.dimacs.proofs.AlikeWords.{word-same, EndSeen, line-ends-same, end-same, UintSeen, uint-follows}
 
 -- No format's word has a stop.
 format-no-stops : (f : Format) → NoStops (formatWord f)
@@ -43,13 +43,16 @@ module _ {n : ℕ} {s t : List ℕ} (a : Alike n s t) where
     where
       go : (u : Uint) → UintMoves s at u → UintEnds s at u → (UintSeen n s at u → uintAt t limit at ≡ u)
           → Follows at (counted s none big at then u) (counted t none big at then′ (uintAt t limit at))
-      go uint.Missing m f is k = (omega (arith, past-spans s at isNotStop), rw (is k))
-      go uint.TooBig m f is k = (omega (arith, past-spans s at isNotStop), rw (is k))
+      go uint.Missing m f is k = (omega (arith, past-spans s at isNotStop), rw (is k) (ap opening.Refused (numbered-same a _ at k)))
+      go uint.TooBig m f is k = (omega (arith, past-spans s at isNotStop), rw (is k) (ap opening.Refused (numbered-same a _ at k)))
       go (uint.Value v e) m f is k = let q = next v e (f .1) k in (omega (arith, q .0), rw (is (q .0)) (q .1))
 
   header-end-same : (h : Header) (at : ℕ) → NoLFBefore s at → Follows at (headerEnd s h at) (headerEnd t h at)
   unfolding headerEnd numbered
-  header-end-same h at o k = let q = end-same a at o (go (endOfLine s at) k) in (q .0, rw (q .1))
+  header-end-same h at o k =
+      let l = go (endOfLine s at) k in
+      let q = end-same a at o l in
+      (q .0, rw (q .1) (line-ends-same a _ at (opening.Header h) opening.Refused (endOfLine s at) l))
     where
       go : (x : EndOfLine) → openingSeen s (lineEnds x (opening.Header h) (opening.Refused (refusal s Reason.lineEndExpected at))) ≤ n → EndSeen n s at x
       go end.Missing k = k
@@ -80,7 +83,7 @@ module _ {n : ℕ} {s t : List ℕ} (a : Alike n s t) where
       let l : wordSeen s at ≤ n = rw y at k in
       let z = eqb-true e at y in
       let o = past-spans s at isNotStop in
-      (omega arith, rw (y, word-same a w at (format-no-stops f) (omega arith) (omega arith), y)))
+      (omega arith, rw (y, word-same a w at (format-no-stops f) (omega arith) (omega arith), y) (ap opening.Refused (numbered-same a _ at l))))
       (λ y.
       let l : openingSeen s (variableCount s f e) ≤ n = rw y at k in
       let q = variable-count-same f e l in

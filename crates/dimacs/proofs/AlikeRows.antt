@@ -20,7 +20,7 @@ use Rattle.dimacs.proofs.Spans.{past-spans, IntMoves, int-moves, linebr
 use Rattle.dimacs.proofs.Rows.{RowSpans, row-spans, Grown, row-grows, row-ends, row-closes, row-too-big, row-full, row-takes}
 use Rattle.dimacs.proofs.Literals.{closed-by, stopped-by, nothing-there, none-after-lines, none-on-line, breaks}
 use Rattle.dimacs.proofs.WordEnds.{NoLFBefore, IntEnds, int-ends, int-in-word, no-word-at-break}
-use Rattle.dimacs.proofs.Alike.{Alike, linebreaks-same}
+use Rattle.dimacs.proofs.Alike.{Alike, numbered-same, linebreaks-same}
 use Rattle.dimacs.proofs.AlikeWords.{IntAlike, int-same}
 
 -- The bytes that settle what a row comes to are among the first n.
@@ -70,12 +70,12 @@ module _ {n : ℕ} {s t : List ℕ} (a : Alike n s t) (limit room : ℕ) where
       go (int.Zero c) e m f next =
           rw (row-closes s limit room at so e)
           (f .1, λ k. row-closes t limit room at so (int-is at e (omega arith) (omega (arith, f .0)) k))
-      go int.TooBig e m f next = rw (row-too-big s limit room at so e) (tt, λ k. row-too-big t limit room at so (int-by-word at e k))
+      go int.TooBig e m f next = rw (row-too-big s limit room at so e) (tt, λ k. row-too-big t limit room at so (int-by-word at e k) ∙ ap (λ r. stops r so) (numbered-same a _ at k))
       go (int.Literal v c) e m f next =
           tested (leb room (length so))
           (λ y.
           let l = leb-true room (length so) y in
-          rw (row-full s limit room at so e l) (tt, λ k. row-full t limit room at so (int-by-word at e k .1) l))
+          rw (row-full s limit room at so e l) (tt, λ k. row-full t limit room at so (int-by-word at e k .1) l ∙ ap (λ r. stops r so) (numbered-same a _ at k)))
           (λ y.
           let l = leb-false room (length so) y in
           let more = so ++ (v ∷ []) in
@@ -149,7 +149,7 @@ module _ {n : ℕ} {s t : List ℕ} (a : Alike n s t) (limit room : ℕ) where
           (λ y′.
           let z′ = eqb-true (length more) (length so) y′ in
           rw (none-after-lines s limit room r is z z′)
-          (tt, λ k. (row-reach n s at (ends e more) p k, none-after-lines t limit room r (f .1 k) z z′)))
+          (tt, λ k. (row-reach n s at (ends e more) p k, none-after-lines t limit room r (f .1 k) z z′ ∙ ap (λ x. stopped x more) (numbered-same a _ e k))))
           (λ y′.
           let z′ = eqb-false (length more) (length so) y′ in
           tested (unmoved e q)
@@ -159,7 +159,8 @@ module _ {n : ℕ} {s t : List ℕ} (a : Alike n s t) (limit room : ℕ) where
             tt,
             λ k. (
               row-reach n s at (ends e more) p k,
-              none-on-line t limit room r (f .1 k) z z′ q (sym (linebreaks-same a e (omega (arith, past-spans s e isNotStop)))) u,
+              none-on-line t limit room r (f .1 k) z z′ q (sym (linebreaks-same a e (omega (arith, past-spans s e isNotStop)))) u
+                  ∙ ap (λ x. stopped x more) (numbered-same a _ e k),
             ),
           ))
           (λ b.

@@ -10,14 +10,15 @@ use borrow.Author.Tests.{ne-eqb, lt-leb, eqb-true, eqb-false, leb-true}
 use lib.Dec.{leb, eqb}
 use lib.ListN.{length, getD, drop}
 use Rattle.dimacs.specs.Bytes.{isDigit, isStop, isNotStop, LF}
-use Rattle.dimacs.specs.Names.{ceiling}
-use Rattle.dimacs.specs.Tokens.{past, begins, decimal, unmoved, Number, none, found, upTo, upToEitherWay, byteAt, blanks, fixed, wordEnds, word, unsigned, braced, minus, uintAt, bracedUintAt, intAt, lineEnd, endOfLine}
+use Rattle.dimacs.specs.Names.{ceiling, numbered}
+use Rattle.dimacs.specs.Tokens.{past, begins, decimal, unmoved, Number, none, found, upTo, upToEitherWay, byteAt, blanks, fixed, wordEnds, word, unsigned, braced, minus, uintAt, bracedUintAt, intAt, lineEnd, endOfLine, lineEnds}
 use Rattle.dimacs.specs.Clauses.{isZero}
 use Rattle.dimacs.specs.Seen.{lineSeen, wordSeen}
 use Rattle.dimacs.specs.declared.EndOfLine.{EndOfLine}
 use Rattle.dimacs.specs.declared.EndOfLine.the-variants as end
 use Rattle.dimacs.specs.declared.Int.{Int}
 use Rattle.dimacs.specs.declared.Int.the-variants as int
+use Rattle.dimacs.specs.declared.Refusal.{Refusal}
 use Rattle.dimacs.specs.declared.Uint.{Uint}
 use Rattle.dimacs.specs.declared.Uint.the-variants as uint
 use Rattle.dimacs.proofs.Tests.{tested, unlike}
@@ -27,7 +28,7 @@ use Rattle.dimacs.proofs.Lines.{line-end-LF}
 use Rattle.dimacs.proofs.Words.{fixed-no, fixed-is}
 use Rattle.dimacs.proofs.Numbers.{decimal-more, decimal-stop}
 use Rattle.dimacs.proofs.WordEnds.{NoStops, begins-cons, uint-ends, UintEnds, GroupEnds, braced-uint-ends, group-in-word, digits-in-word, line-end-long, NoLFBefore, begins-run}
-use Rattle.dimacs.proofs.Alike.{Alike, past-same, blanks-same, line-end-same}
+use Rattle.dimacs.proofs.Alike.{Alike, past-same, numbered-same, blanks-same, line-end-same}
 
 -- A number that is the same but for the place past the blanks after it, and that too if it is before n.
 abbrev pub NumberAlike : ℕ → Number → Number → Type 0
@@ -198,6 +199,12 @@ module _ {n : ℕ} {s t : List ℕ} (a : Alike n s t) where
       let o = line-end-LF s at z in
       line-end-LF t at (a .same at (omega arith) ∙ z) ∙ sym o)
       (λ e. line-end-same a at (omega (arith, line-end-long s at e h)))
+
+  -- Where no line end stands, what is refused is the same.
+  pub line-ends-same : {A : Type 0} (number at : ℕ) (then : ℕ → A) (why : Refusal → A) (x : EndOfLine) → EndSeen n s at x
+      → lineEnds x then (why (numbered t number at)) ≡ lineEnds x then (why (numbered s number at))
+  line-ends-same number at then why end.Missing k = ap why (numbered-same a number at k)
+  line-ends-same number at then why (end.Past e) k = refl
 
   -- How a line is closed is the same if it is seen, and so is the byte there. Before the end of a text that closes it stands no LF.
   pub end-same : (at : ℕ) → NoLFBefore s at → EndSeen n s at (endOfLine s at) → (at < n) × (endOfLine t at ≡ endOfLine s at)

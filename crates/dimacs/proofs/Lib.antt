@@ -8,6 +8,7 @@ pub mod Spans
 pub mod Lines
 pub mod Lined
 pub mod LinedTokens
+pub mod Spots
 pub mod Words
 pub mod Numbers
 pub mod Rows

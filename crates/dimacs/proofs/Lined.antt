@@ -9,7 +9,7 @@ use borrow.Author.Tests.{eq-eqb, ne-eqb, eqb-true, eqb-false}
 use lib.Dec.{eqb}
 use lib.ListN.{length, getD, take, drop}
 use Rattle.dimacs.specs.Bytes.{LF, CR}
-use Rattle.dimacs.specs.Lined.{lineByte, lined, NoLoneReturn}
+use Rattle.dimacs.specs.Lined.{lineByte, lined, alsoEnds, NoLoneReturn}
 use Rattle.dimacs.specs.Seen.{Agree, withNext}
 use Rattle.dimacs.specs.declared.Ends.{Ends}
 use Rattle.dimacs.specs.declared.Ends.the-variants.{LineFeed, AlsoReturn}
@@ -124,6 +124,29 @@ module _ (s : List ℕ) (at : ℕ) where
 
   pub byte-return : getD s at 0 ≡ CR → (getD s (at + 1) 0 ≡ LF → ⊥) → getD (lined AlsoReturn s) at 0 ≡ LF
   byte-return h k = lined-byte AlsoReturn s at ∙ rw (eq-eqb (getD s at 0) CR h, ne-eqb (getD s (at + 1) 0) LF k)
+
+-- Whether a line ends with the byte at a place, as the code finds it.
+module _ (s : List ℕ) (at : ℕ) where
+  pub ends-with-LF : (rule : Ends) → getD s at 0 ≡ LF → getD (lined rule s) at 0 ≡ LF
+  ends-with-LF rule h = byte-other rule s at (λ e. omega arith) ∙ h
+
+  module _ (n : getD s at 0 ≡ LF → ⊥) where
+    pub ends-with-no : (rule : Ends) → (getD s at 0 ≡ alsoEnds rule → ⊥) → getD (lined rule s) at 0 ≡ LF → ⊥
+    ends-with-no LineFeed m e = n (sym (byte-as-is s at) ∙ e)
+    ends-with-no AlsoReturn m e = n (sym (byte-other AlsoReturn s at m) ∙ e)
+
+    pub ends-before-LF : (rule : Ends) → getD s (at + 1) 0 ≡ LF → getD (lined rule s) at 0 ≡ LF → ⊥
+    ends-before-LF rule k e = n (sym (byte-before-LF rule s at k) ∙ e)
+
+    pub ends-with-return : (rule : Ends) → getD s at 0 ≡ alsoEnds rule → (getD s (at + 1) 0 ≡ LF → ⊥) → getD (lined rule s) at 0 ≡ LF
+    ends-with-return LineFeed m k = absurd (n m)
+    ends-with-return AlsoReturn m k = byte-return s at m k
+
+    pub ends-unless-LF : (rule : Ends) → getD s at 0 ≡ alsoEnds rule → not (eqb (getD s (at + 1) 0) LF) ≡ eqb (getD (lined rule s) at 0) LF
+    ends-unless-LF rule m =
+        tested (eqb (getD s (at + 1) 0) LF)
+        (λ t. rw (t, ne-eqb (getD (lined rule s) at 0) LF (ends-before-LF rule (eqb-true (getD s (at + 1) 0) LF t))))
+        (λ t. rw (t, eq-eqb (getD (lined rule s) at 0) LF (ends-with-return rule m (eqb-false (getD s (at + 1) 0) LF t))))
 
 -- Texts that agree on so many bytes agree as they are read.
 pub agree-lined : (rule : Ends) (n : ℕ) (s t : List ℕ) → Agree (withNext rule n) s t → Agree n (lined rule s) (lined rule t)

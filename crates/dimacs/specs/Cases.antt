@@ -1,13 +1,14 @@
 -- The texts on both sides of document 01, with what the definition says of each. Assumes nothing.
 use Prim.Native.Nat.{ℕ}
 use Prim.Native.String.{String}
-use mathlib.Core.List.{List, [], _∷_, _++_, map}
+use mathlib.Core.List.{List, [], _∷_, _++_, map, flatMap}
 use mathlib.Core.Path.{_≡_, refl}
 use lib.ListN.{length}
 use lib.IntN.{ℤ, pos, negsuc}
 use Rattle.dimacs.specs.Loop.{loop, said}
 use Rattle.dimacs.specs.Bytes.{bytes}
-use Rattle.dimacs.specs.Names.{inMode, numbered}
+use Rattle.dimacs.specs.Spots.{bytesOn}
+use Rattle.dimacs.specs.Names.{inMode, numbered, callNumbered}
 use Rattle.dimacs.specs.Lined.{lined}
 use Rattle.dimacs.specs.Tokens.{run, past, begins, decimal, lineEnd, nextLine, endOfLine, fixed, wordEnds, word, strictComment, newline, linePast, commentOrNewline, lines, linebreaks, unsigned, braced, minus, uintAt, bracedUintAt, intAt, stoppedAt}
 use Rattle.dimacs.specs.Header.{headerOf, headerEnd, thirdThere, thirdCount, clauseCount, variableCount, afterP, openingOf}
@@ -30,13 +31,14 @@ use Rattle.dimacs.specs.declared.Refusal.{Refusal}
 use Rattle.dimacs.specs.declared.Verdict.{Verdict}
 use Rattle.dimacs.specs.declared.Verdict.the-variants.{Yes, No, Unknown, None}
 
--- A line of what is said of a text: its header's counts; a clause, with its weight or group or 0; a refusal's number, place and k; a log's verdict.
+-- A line of what is said of a text: its header's counts; a clause, with its weight or group or 0; a refusal's number, place and k, or its number, place, line and column; a log's verdict.
 pub data Line : Type 0 where
   Header : ℕ → ℕ → ℕ → Line
   NoHeader : Line
   Clause : ℕ → List ℤ → Line
   End : Line
   Refused : ℕ → ℕ → ℕ → Line
+  Spotted : ℕ → ℕ → ℕ → ℕ → Line
   Says : Verdict → List ℤ → Line
 
 abbrev refusedLine : Refusal → List ℤ → Line
@@ -279,6 +281,99 @@ unfolding linesOf
 in-2022-hold rigor LineFeed = refl
 in-2022-hold rigor AlsoReturn = refl
 
+-- Where a text is refused, by line and column; nothing of a text that is read to its end.
+abbrev spotted : Refusal → List Line
+spotted r = Spotted (r .number) (r .place) (r .line) (r .column) ∷ []
+
+abbrev answerSpots : Answer → List Line
+answerSpots (clause extra so) = []
+answerSpots ended = []
+answerSpots (refused r so) = spotted r
+
+abbrev openingSpots : Opening → List Line → List Line
+openingSpots (opening.Header h at) rest = rest
+openingSpots (opening.NoHeader at) rest = rest
+openingSpots (opening.Refused r) rest = spotted r
+
+abbrev logSpots : LogAnswer → List Line
+logSpots (accepted v so) = []
+logSpots (refusedLog r so) = spotted r
+
+abbrev spotsBy : Kind → Mode → ℕ → List ℕ → List Line
+spotsBy (Formula f) m room s = let t = text f m room s in openingSpots (t .opened) (flatMap answerSpots (t .answers))
+spotsBy Log m room s = logSpots (log s m room)
+
+-- What the definition says of where a case's text is refused.
+pub spotsOf : Case → List Line
+unfolding loop said numbered lined run past begins decimal lineEnd nextLine endOfLine fixed wordEnds word strictComment newline linePast commentOrNewline lines linebreaks unsigned braced minus uintAt bracedUintAt intAt headerEnd thirdThere thirdCount clauseCount variableCount afterP openingOf nextInt row nextRow literalsFrom literals absent startIn2022 startAt closing clauseAt nextClause answerAt turn answersFrom text valueLine solutionLine logLine logFrom log bytesOn flatMap
+spotsOf c = spotsBy (c .kind) (c .mode) (c .room) (bytes (c .quoted))
+
+-- Refusals of a text that all modes give, as no CR stands alone in these: within a line, at its start and at its end, after CR LF, and at the end of a text.
+abbrev pub spots : Mode → List Case
+spots m =
+    case (Formula Plain) m "c order 7\np dnf 1 1\n" (Spotted 1 12 2 3 ∷ [])
+    ∷ case (Formula Plain) m "p cnf\n" (Spotted 2 5 1 6 ∷ [])
+    ∷ case (Formula Plain) m "p cnf 3\r\n" (Spotted 3 7 1 8 ∷ [])
+    ∷ case (Formula Weighted) m "\r\np wcnf 1 2" (Spotted 4 12 2 11 ∷ [])
+    ∷ case (Formula Plain) m "1 0\n2 0 3 0\n" (Spotted 5 8 2 5 ∷ [])
+    ∷ case (Formula Plain) m "1 2" (Spotted 6 3 1 4 ∷ [])
+    ∷ case (Formula Plain) m "1\r\n2 x\r\n" (Spotted 6 5 2 3 ∷ [])
+    ∷ case (Formula Plain) m "1 \nx" (Spotted 7 3 2 1 ∷ [])
+    ∷ case (Formula Plain) m "1\r\n" (Spotted 7 3 2 1 ∷ [])
+    ∷ case (Formula Weighted) m "5\n" (Spotted 8 2 2 1 ∷ [])
+    ∷ case (Formula Plain) m "1 0\n\nx\n" (Spotted 9 5 3 1 ∷ [])
+    ∷ case (Formula Plain) m "p cnf 2147483648 1\n" (Spotted 10 6 1 7 ∷ [])
+    ∷ case (Formula Plain) m "c\np cnf 1 18446744073709551616\n" (Spotted 11 10 2 9 ∷ [])
+    ∷ case (Formula Grouped) m "p gcnf 1 1 18446744073709551616\n" (Spotted 12 11 1 12 ∷ [])
+    ∷ case (Formula Weighted) m "1 1 0\n18446744073709551616 1 0\n" (Spotted 13 6 2 1 ∷ [])
+    ∷ case (Formula Grouped) m "{1} 1 0\r\n{18446744073709551616} 1 0\r\n" (Spotted 14 9 2 1 ∷ [])
+    ∷ case (Formula Plain) m "1 0\n1 -2147483648 0\n" (Spotted 15 6 2 3 ∷ [])
+    ∷ withRoom 1 (case (Formula Plain) m "1\n 2 0\n" (Spotted 16 3 2 2 ∷ []))
+    ∷ case Log m "c x\ns MAYBE\n" (Spotted 17 6 2 3 ∷ [])
+    ∷ case Log m "v 1 -2\n" (Spotted 19 7 2 1 ∷ [])
+    ∷ case (Formula Weighted2022) m "h 1 0\n0 2 0\n" (Spotted 32 6 2 1 ∷ [])
+    ∷ case (Formula Weighted2022) m "c x\np cnf 1 1\n" (Spotted 33 4 2 1 ∷ [])
+    ∷ []
+
+-- Refusals that the strict modes alone give: of a count, and of a line that is none of a log.
+abbrev pub strictSpots : Mode → List Case
+strictSpots m =
+    case (Formula Plain) m "p cnf 1 1\nc" (Spotted 9 11 2 2 ∷ [])
+    ∷ case (Formula Grouped) m "p gcnf 1 2 1\r\n{1} 1 0\r\n{2} 1 0\r\n" (Spotted 14 23 3 1 ∷ [])
+    ∷ case (Formula Plain) m "p cnf 2 1\n1 3 0\n" (Spotted 15 12 2 3 ∷ [])
+    ∷ case Log m "s UNKNOWN\n\n" (Spotted 18 10 2 1 ∷ [])
+    ∷ []
+
+-- Texts with CR, in all modes: a CR alone before the place, and two CR before LF.
+abbrev pub spotsAfterReturn : List Case
+spotsAfterReturn =
+    byLineEnds "1\r2 x\n" (Spotted 6 1 1 2 ∷ []) (Spotted 6 4 2 3 ∷ [])
+    ++ byLineEnds "c a\rc b\n1 x\n" (Spotted 6 10 2 3 ∷ []) (Spotted 6 10 3 3 ∷ [])
+    ++ byLineEnds "c a\r\r\n1 x" (Spotted 6 8 2 3 ∷ []) (Spotted 6 8 3 3 ∷ [])
+    ++ inModes (Formula Plain) "p cnf 1 1\nc a\rc b" (Spotted 9 17 2 8 ∷ []) [] (Spotted 9 17 3 4 ∷ []) []
+    ++ inModes Log "c a\rc b\nx\n" (Spotted 18 8 2 1 ∷ []) [] (Spotted 18 8 3 1 ∷ []) []
+    ++ inModes Log "v 1\rv 2\r\n" (Spotted 5 3 1 4 ∷ []) (Spotted 5 3 1 4 ∷ []) (Spotted 19 9 3 1 ∷ []) (Spotted 19 9 3 1 ∷ [])
+
+-- The definition says of every text in the table where it is refused.
+abbrev pub SpotsHold : List Case → Type 0
+SpotsHold cases = map spotsOf cases ≡ map (λ c. c .expected) cases
+
+pub spots-hold : (rigor : Rigor) (rule : Ends) → SpotsHold (spots (inMode rigor rule))
+unfolding spotsOf
+spots-hold Strict LineFeed = refl
+spots-hold Strict AlsoReturn = refl
+spots-hold Lenient LineFeed = refl
+spots-hold Lenient AlsoReturn = refl
+
+pub strict-spots-hold : (rule : Ends) → SpotsHold (strictSpots (inMode Strict rule))
+unfolding spotsOf
+strict-spots-hold LineFeed = refl
+strict-spots-hold AlsoReturn = refl
+
+pub spots-after-return-hold : SpotsHold spotsAfterReturn
+unfolding spotsOf
+spots-after-return-hold = refl
+
 -- The word a reader stopped at: a text, a place and the word there.
 pub record Stop : Type 0 where
   pub quoted : String
@@ -351,7 +446,7 @@ abbrev writes : Written → String → Writes
 writes a q = record { asked = a; comes-to = written (bytes q) }
 
 abbrev writesNothing : Written → ℕ → ℕ → Writes
-writesNothing a n at = record { asked = a; comes-to = unwritten (record { number = n; place = at }) }
+writesNothing a n at = record { asked = a; comes-to = unwritten (callNumbered n at) }
 
 abbrev pub writing : List Writes
 writing =

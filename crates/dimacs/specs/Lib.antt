@@ -3,6 +3,7 @@
 pub mod Loop
 pub mod Buffers
 pub mod Bytes
+pub mod Spots
 pub mod Names
 pub mod Lined
 pub mod Tokens

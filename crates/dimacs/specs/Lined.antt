@@ -19,6 +19,11 @@ unfoldable pub lined : Ends → List ℕ → List ℕ
 lined rule [] = []
 lined rule (b ∷ r) = lineByte rule b (getD r 0 0) ∷ lined rule r
 
+-- The byte that ends a line wherever it stands, beside LF, as the code asks what ends a line.
+abbrev pub alsoEnds : Ends → ℕ
+alsoEnds LineFeed = LF
+alsoEnds AlsoReturn = CR
+
 -- No CR stands alone.
 abbrev pub NoLoneReturn : List ℕ → Type 0
 NoLoneReturn s = (i : ℕ) → getD s i 0 ≡ CR → getD s (i + 1) 0 ≡ LF

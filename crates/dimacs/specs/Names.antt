@@ -3,6 +3,7 @@ use Prim.Native.Nat.{ℕ, _-_, _^_}
 use mathlib.Core.List.{List}
 use mathlib.Core.Bool.{cond}
 use lib.Dec.{eqb}
+use Rattle.dimacs.specs.Spots.{lineAndColumn, spotOf}
 use Rattle.dimacs.specs.declared.Format.the-variants.{Plain, Weighted, Grouped, Weighted2022}
 use Rattle.dimacs.specs.declared.Mode.{Mode}
 use Rattle.dimacs.specs.declared.Rigor.{Rigor}
@@ -12,6 +13,7 @@ use Rattle.dimacs.specs.declared.Ends.the-variants.{LineFeed, AlsoReturn
 use Rattle.dimacs.specs.declared.Kind.{Kind}
 use Rattle.dimacs.specs.declared.Kind.the-variants.{Unknown, Clauses, Log}
 use Rattle.dimacs.specs.declared.Refusal.{Refusal}
+use Rattle.dimacs.specs.declared.Spot.{Spot}
 
 -- The largest variable, and the largest literal either way.
 abbrev pub ceiling : ℕ
@@ -98,17 +100,21 @@ numberOf outputTooShort = 28  -- writer: output too short
 numberOf weightZero = 32  -- 2022 form: weight zero
 numberOf headerNotExpected = 33  -- 2022 form: the word `p` where a clause may start
 
--- A refusal of the text s by its number, at a place in it.
+-- A refusal of the text s by its number, at a place in it, with the line and the column of that place.
 unfoldable pub numbered : List ℕ → ℕ → ℕ → Refusal
-numbered s number at = record { number = number; place = at }
+numbered s number at = let p = spotOf s at in record { number = number; place = at; line = p .line; column = p .column }
+
+-- The line and the column of a refusal.
+abbrev pub refusedSpot : Refusal → Spot
+refusedSpot r = lineAndColumn (r .line) (r .column)
 
 -- A refusal of the text s for a reason, at a place in it.
 abbrev pub refusal : List ℕ → Reason → ℕ → Refusal
 refusal s why at = numbered s (numberOf why) at
 
--- A refusal by its number where no text is at fault, at the index of the literal at fault, or at 0.
+-- A refusal by its number where no text is at fault, at the index of the literal at fault, or at 0. It has no line and no column.
 abbrev pub callNumbered : ℕ → ℕ → Refusal
-callNumbered number index = record { number = number; place = index }
+callNumbered number index = record { number = number; place = index; line = 0; column = 0 }
 
 -- Such a refusal for a reason.
 abbrev pub callRefusal : Reason → ℕ → Refusal

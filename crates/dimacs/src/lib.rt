@@ -1,9 +1,15 @@
 // The words that every layer shares: bounds, formats and modes, reasons for a refusal, and the small answers of tokens.
 // The written definition in specs/ is over these same types, so that a contract equates an answer with a definition.
 ghost use mathlib.Core.Path.{_≡_};
+ghost use Prim.Native.Nat.{_<_};
+ghost use lib.Dec.{eqb};
 ghost use lib.IntN.{natAbs};
+ghost use lib.ListN.{length};
+ghost use Rattle.dimacs.specs.Bytes.{LF};
+ghost use Rattle.dimacs.specs.Spots.{spotOf};
 ghost use Rattle.dimacs.specs.Names.{inMode, kindIn, kindOf, numbered, callNumbered};
-ghost use Rattle.dimacs.specs.Lined.{lined};
+ghost use Rattle.dimacs.specs.Lined.{lined, alsoEnds};
+ghost use Rattle.dimacs.specs.Tokens.{byteAt};
 ghost use Rattle.dimacs.specs.Header.{hasHeader, hasThird};
 ghost use Rattle.dimacs.specs.Clauses.{hasHard};
 
@@ -185,17 +191,83 @@ pub const WEIGHT_ZERO: u8 = 32;
 
 pub const HEADER_NOT_EXPECTED: u8 = 33;
 
-// A refusal: its number, and the place at fault.
+// A refusal: its number, the place at fault, and the line and the column of that place, or 0 and 0 where no text is at fault.
 pub struct Refusal {
     pub number: u8,
     pub place: usize,
+    pub line: usize,
+    pub column: usize,
+}
+
+// The line and the column of a place, both counted from 1.
+pub struct Spot {
+    pub line: usize,
+    pub column: usize,
+}
+
+// The byte that ends a line wherever it stands, beside LF: CR, or no other.
+pub fn also_ends(ends: Ends) -> u8
+    ensures { λ r. ⌜ r ≡ alsoEnds ends ⌝ }
+{
+    match ends {
+        Ends::LineFeed => b'\n',
+        Ends::AlsoReturn => b'\r',
+    }
+}
+
+// Whether a line ends with the byte at a place. With CR before LF it does not, as it ends with the LF.
+fn ends_line(text: &[u8], ends: Ends, at: usize) -> bool
+    requires { ⌜ at < length (now text) ⌝ }
+    ensures { λ r. ⌜ r ≡ eqb (byteAt (lined ends (now (text .entry))) at) LF ⌝ }
+{
+    let b = text[at];
+    if b == b'\n' {
+        return true;
+    }
+    if b == also_ends(ends) {
+        let next = at + 1;
+        if next < text.len() {
+            return text[next] != b'\n';
+        }
+        return true;
+    }
+    false
+}
+
+// The line and the column of a place. A place past the text's end has those of the end.
+// LLVM puts a copy of a function that calls itself into no caller, so that a reader holds no such loop at each refusal.
+fn spot_of(text: &[u8], ends: Ends, place: usize) -> Spot
+    ensures { λ r. ⌜ r ≡ spotOf (lined ends (now (text .entry))) place ⌝ }
+{
+    if text.len() < place {
+        return spot_of(text, ends, text.len());
+    }
+    let mut line: usize = 1;
+    let mut column: usize = 1;
+    let mut i: usize = 0;
+    while i < place {
+        if ends_line(text, ends, i) {
+            line += 1;
+            column = 1;
+        } else {
+            column += 1;
+        }
+        i += 1;
+    }
+    Spot { line, column }
 }
 
 // The refusal of a text at a place in it. Every refusal of a text is made here.
 pub fn refuse(text: &[u8], ends: Ends, number: u8, place: usize) -> Refusal
     ensures { λ r. ⌜ r ≡ numbered (lined ends (now (text .entry))) number place ⌝ }
 {
-    Refusal { number, place }
+    let spot = spot_of(text, ends, place);
+    Refusal {
+        number,
+        place,
+        line: spot.line,
+        column: spot.column,
+    }
 }
 
 // The refusal of a call, where no text is at fault, at the index of the literal at fault, or at 0. Every such refusal is made here.
@@ -205,6 +277,8 @@ pub fn refuse_call(number: u8, index: usize) -> Refusal
     Refusal {
         number,
         place: index,
+        line: 0,
+        column: 0,
     }
 }
 

@@ -27,7 +27,7 @@ use Rattle.dimacs.proofs.Clauses.{toCome, Placed, AnswerFits}
 use Rattle.dimacs.proofs.Texts.{next-clause-onward, answers-step, answer-fits}
 use Rattle.header.specs.Headed.{headedIn}
 use Rattle.header.specs.declared.Headed.{Headed}
-use Rattle.clause.specs.Answers.{nextOf, numberIn, placeIn, kIn}
+use Rattle.clause.specs.Answers.{nextOf, numberIn, placeIn, spotIn, kIn}
 use Rattle.clause.specs.declared.Next.{Next}
 use Rattle.clause.specs.declared.Next.the-variants as next
 use Rattle.formula.specs.declared.Cursor.{Cursor}
@@ -89,12 +89,12 @@ calls-are-answers f m room s = go (openingOf read f)
         let c = texts.progress (r .place) 0 (final.Refused r) in
         calls-from s f (m .ends) unlimited room c ∙ ap (map callOf) (answers-step read f unlimited room c)
 
--- After a refused header each call for a clause answers its number, place and k.
+-- After a refused header each call for a clause answers its number, place, line and column, and k.
 pub header-repeated : (f : Format) (m : Mode) (s : List ℕ) (room : ℕ) (r : Refusal) → let o = openedAs f m s in let a = stepOf s room (o .cursor) .answer in
     o .opening ≡ opening.Refused r
-    → (numberIn a ≡ openings.numberIn (o .opening)) × (placeIn a ≡ openings.placeIn (o .opening)) × (kIn a ≡ openings.kIn (o .opening))
+    → (numberIn a ≡ openings.numberIn (o .opening)) × (placeIn a ≡ openings.placeIn (o .opening)) × (spotIn a ≡ openings.spotIn (o .opening)) × (kIn a ≡ openings.kIn (o .opening))
 unfolding openedAs texts.answerAt
-header-repeated f m s room r h = rw h (refl, refl, refl)
+header-repeated f m s room r h = rw h (refl, refl, refl, refl)
 
 -- A call leads on: after a clause the text comes to the same and fewer clauses are to come; any other answer is what it comes to.
 abbrev pub CallLeads : List ℕ → ℕ → Cursor → Cursor → Next → Type 0

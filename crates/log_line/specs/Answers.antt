@@ -3,7 +3,10 @@ use Prim.Native.Nat.{ℕ}
 use mathlib.Core.List.{List}
 use lib.ListN.{length}
 use lib.IntN.{ℤ}
+use Rattle.dimacs.specs.Names.{refusedSpot}
+use Rattle.dimacs.specs.Spots.{nowhere}
 use Rattle.dimacs.specs.Logs as def
+use Rattle.dimacs.specs.declared.Spot.{Spot}
 use Rattle.log_line.specs.declared.Log.{Log}
 use Rattle.log_line.specs.declared.Log.the-variants.{Accepted, Refused}
 
@@ -21,6 +24,11 @@ numberIn (Refused r n) = r .number
 abbrev pub placeIn : Log → ℕ
 placeIn (Accepted v n) = 0
 placeIn (Refused r n) = r .place
+
+-- Line and column of the refusal, 0 and 0 where the log is accepted.
+abbrev pub spotIn : Log → Spot
+spotIn (Accepted v n) = nowhere
+spotIn (Refused r n) = refusedSpot r
 
 -- k, how many literals were read.
 abbrev pub kIn : Log → ℕ

@@ -12,6 +12,7 @@ use Rattle.dimacs.specs.Clauses.{Answer, refused}
 use Rattle.dimacs.specs.declared.Format.{Format}
 use Rattle.dimacs.specs.declared.Opening.{Opening}
 use Rattle.dimacs.specs.declared.Opening.the-variants as how
+use Rattle.dimacs.specs.declared.Spot.{Spot}
 use Rattle.clause.specs.Answers as answers
 use Rattle.clause.specs.Answers.{nextOf, leftBy}
 use Rattle.clause.specs.declared.Next.{Next}
@@ -57,6 +58,11 @@ numberIn (said.Next a) = answers.numberIn a
 abbrev pub placeIn : Said → ℕ
 placeIn (said.Opening o) = openings.placeIn o
 placeIn (said.Next a) = answers.placeIn a
+
+-- Line and column of the refusal that was said, 0 and 0 if none was.
+abbrev pub spotIn : Said → Spot
+spotIn (said.Opening o) = openings.spotIn o
+spotIn (said.Next a) = answers.spotIn a
 
 -- k, how many literals were read.
 abbrev pub kIn : Said → ℕ

@@ -5,34 +5,25 @@ use mathlib.Core.Path.{_≡_, sym, _∙_}
 use native.Mathlib.Omega.{arith}
 use lib.ListN.{length, getD}
 use Rattle.dimacs.specs.Bytes.{LF, CR, isNotLF}
-use Rattle.dimacs.specs.Lined.{lined}
+use Rattle.dimacs.specs.Lined.{lined, alsoEnds}
 use Rattle.dimacs.specs.Tokens.{past, lineEnd, nextLine}
 use Rattle.dimacs.specs.declared.Ends.{Ends}
 use Rattle.dimacs.specs.declared.Ends.the-variants.{LineFeed, AlsoReturn}
 use Rattle.dimacs.proofs.Bytes.{is-not-LF}
 use Rattle.dimacs.proofs.Past.{past-more}
 use Rattle.dimacs.proofs.Lines.{line-end-LF, line-end-CRLF, line-end-no, next-line-LF}
-use Rattle.dimacs.proofs.Lined.{inside-lined, byte-other, byte-before-LF, byte-as-is, byte-return}
-use Rattle.token.specs.Returns.{alsoEnds, loneReturn}
+use Rattle.dimacs.proofs.Lined.{inside-lined, byte-other, byte-before-LF, byte-as-is, byte-return, ends-with-LF, ends-with-no, ends-before-LF, ends-with-return}
+use Rattle.token.specs.Returns.{loneReturn}
 
-module _ (rule : Ends) (s : List ℕ) where
-  -- LF is read as it is.
-  read-LF : (at : ℕ) → getD s at 0 ≡ LF → getD (lined rule s) at 0 ≡ LF
-  read-LF at h = byte-other rule s at (λ e. omega arith) ∙ h
+module _ (rule : Ends) (s : List ℕ) (at : ℕ) where
+  pub ends-LF : getD s at 0 ≡ LF → lineEnd (lined rule s) at ≡ at + 1
+  ends-LF h = line-end-LF (lined rule s) at (ends-with-LF s at rule h)
 
-  -- So is CR before LF.
-  read-CR : (at : ℕ) → getD s at 0 ≡ CR → getD s (at + 1) 0 ≡ LF → getD (lined rule s) at 0 ≡ CR
-  read-CR at h k = byte-before-LF rule s at k ∙ h
+  pub ends-CRLF : getD s at 0 ≡ CR → getD s (at + 1) 0 ≡ LF → lineEnd (lined rule s) at ≡ at + 2
+  ends-CRLF h k = line-end-CRLF (lined rule s) at (byte-before-LF rule s at k ∙ h) (ends-with-LF s (at + 1) rule k)
 
-  module _ (at : ℕ) where
-    pub ends-LF : getD s at 0 ≡ LF → lineEnd (lined rule s) at ≡ at + 1
-    ends-LF h = line-end-LF (lined rule s) at (read-LF at h)
-
-    pub ends-CRLF : getD s at 0 ≡ CR → getD s (at + 1) 0 ≡ LF → lineEnd (lined rule s) at ≡ at + 2
-    ends-CRLF h k = line-end-CRLF (lined rule s) at (read-CR at h k) (read-LF (at + 1) k)
-
-    pub ends-no : (getD s at 0 ≡ LF → ⊥) → (getD s at 0 ≡ CR → ⊥) → lineEnd (lined rule s) at ≡ at
-    ends-no h k = let is = byte-other rule s at k in line-end-no (lined rule s) at (λ e. h (sym is ∙ e)) (λ e _. k (sym is ∙ e))
+  pub ends-no : (getD s at 0 ≡ LF → ⊥) → (getD s at 0 ≡ CR → ⊥) → lineEnd (lined rule s) at ≡ at
+  ends-no h k = let is = byte-other rule s at k in line-end-no (lined rule s) at (λ e. h (sym is ∙ e)) (λ e _. k (sym is ∙ e))
 
 pub at-most-one : (rule : Ends) → loneReturn rule ≤ 1
 at-most-one LineFeed = omega arith
@@ -50,22 +41,19 @@ Searched s at rule i = past isNotLF (lined rule s) i ≡ past isNotLF (lined rul
 
 module _ (s : List ℕ) (at i : ℕ) (h : i < length s) where
   pub skip-LF : (rule : Ends) → Searched s at rule i → getD s i 0 ≡ LF → nextLine (lined rule s) at ≡ i + 1
-  skip-LF rule so e = next-line-LF (lined rule s) at i so (inside-lined rule s h) (read-LF rule s i e)
+  skip-LF rule so e = next-line-LF (lined rule s) at i so (inside-lined rule s h) (ends-with-LF s i rule e)
 
   one-on : (rule : Ends) → Searched s at rule i → (getD (lined rule s) i 0 ≡ LF → ⊥) → Searched s at rule (i + 1)
   one-on rule so n = past-more isNotLF (lined rule s) i (inside-lined rule s h) (is-not-LF (getD (lined rule s) i 0) n) ∙ so
 
   module _ (n : getD s i 0 ≡ LF → ⊥) where
     pub skip-on : (rule : Ends) → Searched s at rule i → (getD s i 0 ≡ alsoEnds rule → ⊥) → Searched s at rule (i + 1)
-    skip-on LineFeed so m = one-on LineFeed so (λ e. n (sym (byte-as-is s i) ∙ e))
-    skip-on AlsoReturn so m = one-on AlsoReturn so (λ e. n (sym (byte-other AlsoReturn s i m) ∙ e))
+    skip-on rule so m = one-on rule so (ends-with-no s i n rule m)
 
-    pub skip-CRLF : (rule : Ends) → Searched s at rule i → getD s i 0 ≡ alsoEnds rule → i + 1 < length s → getD s (i + 1) 0 ≡ LF → nextLine (lined rule s) at ≡ i + 2
-    skip-CRLF LineFeed so m l k = absurd (n m)
-    skip-CRLF AlsoReturn so m l k =
-        next-line-LF (lined AlsoReturn s) at (i + 1) (one-on AlsoReturn so (λ e. omega (arith, read-CR AlsoReturn s i m k))) (inside-lined AlsoReturn s l) (read-LF AlsoReturn s (i + 1) k)
+    pub skip-CRLF : (rule : Ends) → Searched s at rule i → i + 1 < length s → getD s (i + 1) 0 ≡ LF → nextLine (lined rule s) at ≡ i + 2
+    skip-CRLF rule so l k =
+        next-line-LF (lined rule s) at (i + 1) (one-on rule so (ends-before-LF s i n rule k)) (inside-lined rule s l) (ends-with-LF s (i + 1) rule k)
         ∙ omega arith
 
     pub skip-return : (rule : Ends) → Searched s at rule i → getD s i 0 ≡ alsoEnds rule → (getD s (i + 1) 0 ≡ LF → ⊥) → nextLine (lined rule s) at ≡ i + 1
-    skip-return LineFeed so m k = absurd (n m)
-    skip-return AlsoReturn so m k = next-line-LF (lined AlsoReturn s) at i so (inside-lined AlsoReturn s h) (byte-return s i m k)
+    skip-return rule so m k = next-line-LF (lined rule s) at i so (inside-lined rule s h) (ends-with-return s i n rule m k)

@@ -6,11 +6,12 @@ ghost use lib.ListN.{length};
 ghost use Rattle.dimacs.specs.Lined.{lined};
 ghost use Rattle.dimacs.specs.Tokens.{atEnd, blanks, lineEnd, nextLine, endOfLine, fixed, wordEnds, word, strictComment, newline, linePast, lines, linebreaks};
 ghost use Rattle.token.specs.Parts.{PastWord};
-ghost use Rattle.token.specs.Returns.{alsoEnds, loneReturn};
+ghost use Rattle.token.specs.Returns.{loneReturn};
 ghost use Rattle.token.specs.Words.{WordAt};
 use dimacs::EndOfLine;
 use dimacs::Ends;
 use dimacs::LONGEST_WORD;
+use dimacs::also_ends;
 
 // Whether the text has ended.
 pub fn eof(text: &[u8], at: usize) -> bool
@@ -79,16 +80,6 @@ pub fn word(text: &[u8], at: usize, w: &[u8]) -> usize
         return skip_whitespace(text, e);
     }
     at
-}
-
-// The byte that ends a line wherever it stands, beside LF: CR, or no other.
-fn also_ends(ends: Ends) -> u8
-    ensures { λ r. ⌜ r ≡ alsoEnds ends ⌝ }
-{
-    match ends {
-        Ends::LineFeed => b'\n',
-        Ends::AlsoReturn => b'\r',
-    }
 }
 
 // How many bytes a CR alone has as a line end.

@@ -1,4 +1,4 @@
--- What a turn says, its literals read in the buffer, has the number, place, k and ticket of its answer. Assumes nothing.
+-- What a turn says, its literals read in the buffer, has the number, place, line and column, k and ticket of its answer. Assumes nothing.
 use Prim.Native.Nat.{ℕ}
 use mathlib.Core.Bool.{Bool}
 use mathlib.Core.List.{List}
@@ -23,10 +23,10 @@ use Rattle.ring.specs.Ring.{waiting, frontOf}
 use Rattle.tray.specs.declared.TurnAnswer.the-variants as turning
 use Rattle.tray.specs.declared.TurnDone.{TurnDone}
 use Rattle.tray.specs.Calls.{serve, turnFor, turnOf, bufferFor, bufferOf, Turns}
-use Rattle.tray.specs.Answers.{replyIn, turnSays, numberIn, placeIn, kIn, ticketIn, NumberAlone}
+use Rattle.tray.specs.Answers.{replyIn, turnSays, numberIn, placeIn, spotIn, kIn, ticketIn, NumberAlone}
 
 pub number-alone : (x : Answer Reply) (n : ℕ) → x ≡ refused n → NumberAlone n x
-number-alone x n h = rw h (record { number = refl; place = refl; k = refl; ticket = refl })
+number-alone x n h = rw h (record { number = refl; place = refl; spot = refl; k = refl; ticket = refl })
 
 -- What a caller reads in an answer and the buffer after it is what was said.
 pub reply-in-buffer : (r : Reply) (old : List ℤ) → replyIn (laid (literalsIn r) old) (saidOf r) ≡ r
@@ -39,11 +39,12 @@ reply-in-buffer (answering (def.refused r so)) old = ap (λ l. answering (def.re
 pub record Tells (k : ℕ) (a : Said) (x : Answer Reply) : Type 0 where
   pub number : numberIn x ≡ serving.numberIn a
   pub place : placeIn x ≡ serving.placeIn a
+  pub spot : spotIn x ≡ serving.spotIn a
   pub k-is : kIn x ≡ serving.kIn a
   pub ticket : ticketIn x ≡ k
 
 reply-tells : (r : Reply) (old : List ℤ) (k : ℕ) (last : Bool) → Tells k (saidOf r) (turnSays (laid (literalsIn r) old) (turning.Told k (saidOf r) last))
-reply-tells r old k last = rw (reply-in-buffer r old) (record { number = refl; place = refl; k-is = refl; ticket = refl })
+reply-tells r old k last = rw (reply-in-buffer r old) (record { number = refl; place = refl; spot = refl; k-is = refl; ticket = refl })
 
 turn-tells-by : (t : Tray) (area : List ℕ) (old : List ℤ) (x : Front) {k : ℕ} {a : Said} {last : Bool}
     → turnFor t area (length old) x .answer ≡ turning.Told k a last → Tells k a (turnSays (bufferFor area old x) (turning.Told k a last))

@@ -1,10 +1,12 @@
--- What the answers of the tray's calls say, with the literals of what was said; and the number, place, k and ticket of each, by document 01.
+-- What the answers of the tray's calls say, with the literals of what was said; and the number, place, line and column, k and ticket of each, by documents 01 and 02.
 use Prim.Native.Nat.{ℕ}
 use mathlib.Core.List.{List}
 use mathlib.Core.Path.{_≡_}
 use lib.ListN.{take}
 use lib.IntN.{ℤ}
+use Rattle.dimacs.specs.Spots.{nowhere}
 use Rattle.dimacs.specs.Clauses as def
+use Rattle.dimacs.specs.declared.Spot.{Spot}
 use Rattle.clause.specs.declared.Next.{Next}
 use Rattle.clause.specs.declared.Next.the-variants as next
 use Rattle.rota.specs.Rota.{Answer, refused, ticketed, told, withdrawn}
@@ -59,6 +61,13 @@ placeIn (ticketed k) = 0
 placeIn (told k a last) = serving.placeIn (saidOf a)
 placeIn (withdrawn k) = 0
 
+-- Line and column of the refusal that a turn tells, from the job's start on. A call that is refused has line 0 and column 0.
+abbrev pub spotIn : Answer Reply → Spot
+spotIn (refused n) = nowhere
+spotIn (ticketed k) = nowhere
+spotIn (told k a last) = serving.spotIn (saidOf a)
+spotIn (withdrawn k) = nowhere
+
 -- k, how many literals a turn read. A call that is refused has k 0.
 abbrev pub kIn : Answer Reply → ℕ
 kIn (refused n) = 0
@@ -73,9 +82,10 @@ ticketIn (ticketed k) = k
 ticketIn (told k a last) = k
 ticketIn (withdrawn k) = k
 
--- What a call that is refused answers: its number, with place, k and ticket 0.
+-- What a call that is refused answers: its number, with place, line, column, k and ticket 0.
 pub record NumberAlone (n : ℕ) (x : Answer Reply) : Type 0 where
   pub number : numberIn x ≡ n
   pub place : placeIn x ≡ 0
+  pub spot : spotIn x ≡ nowhere
   pub k : kIn x ≡ 0
   pub ticket : ticketIn x ≡ 0

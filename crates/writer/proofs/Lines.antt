@@ -11,6 +11,7 @@ use lib.ListN.{length, drop}
 use lib.Seq.{sets-eq}
 use Rattle.dimacs.specs.Bytes.{bytes}
 use Rattle.dimacs.specs.Names.{Reason, numberOf, callRefusal, ceiling, hard}
+use Rattle.dimacs.specs.Spots.{nowhere}
 use Rattle.dimacs.specs.Tokens.{run}
 use Rattle.dimacs.specs.Header.{hasHeader}
 use Rattle.dimacs.specs.Clauses.{hasHard}
@@ -23,7 +24,7 @@ use Rattle.dimacs.proofs.Tests.{tested, chosen}
 use Rattle.decimals.specs.Pieces.{PutAt}
 use Rattle.measures.specs.Lines.{headerStart, headerCount}
 use Rattle.measures.proofs.Lines.{header-to-come}
-use Rattle.writer.specs.Answers.{Writes, writtenOf, bytesWritten, numberIn, placeIn, lineLength}
+use Rattle.writer.specs.Answers.{Writes, writtenOf, bytesWritten, numberIn, placeIn, spotIn, lineLength}
 use Rattle.writer.specs.declared.Written.{Written}
 use Rattle.writer.specs.declared.Written.the-variants.{Line, Refused}
 
@@ -140,6 +141,30 @@ clause-place f extra so room = chosen (PlacedBy so) (hasHard f && eqb extra 0) (
 pub hard-clause-place : (f : Format) (so : List ℤ) (room : ℕ) → PlacedBy so (def.writeHardClause f so room)
 unfolding def.writeHardClause
 hard-clause-place f so room = chosen (PlacedBy so) (hasHard f) (λ _. line-place f hard so room) (λ _. refl)
+
+-- What is written or refused has no line and no column.
+abbrev Nowhere : def.Written → Type 0
+Nowhere d = spotIn (writtenOf d) ≡ nowhere
+
+pub header-nowhere : (f : Format) (h : Header) (room : ℕ) → Nowhere (def.writeHeader f h room)
+unfolding def.writeHeader
+header-nowhere f h room =
+    chosen Nowhere (hasHeader f)
+    (λ _. chosen Nowhere (leb (h .variables) ceiling) (λ _. chosen Nowhere (leb (length (headerLine f h)) room) (λ _. refl) (λ _. refl)) (λ _. refl))
+    (λ _. refl)
+
+line-nowhere : (f : Format) (extra : ℕ) (so : List ℤ) (room : ℕ) → Nowhere (def.writeLine f extra so room)
+unfolding def.writeLine
+line-nowhere f extra so room =
+    chosen Nowhere (leb (length so) (run isLiteral so)) (λ _. chosen Nowhere (leb (length (clauseLine f extra so)) room) (λ _. refl) (λ _. refl)) (λ _. refl)
+
+pub clause-nowhere : (f : Format) (extra : ℕ) (so : List ℤ) (room : ℕ) → Nowhere (def.writeClause f extra so room)
+unfolding def.writeClause
+clause-nowhere f extra so room = chosen Nowhere (hasHard f && eqb extra 0) (λ _. refl) (λ _. line-nowhere f extra so room)
+
+pub hard-clause-nowhere : (f : Format) (so : List ℤ) (room : ℕ) → Nowhere (def.writeHardClause f so room)
+unfolding def.writeHardClause
+hard-clause-nowhere f so room = chosen Nowhere (hasHard f) (λ _. line-nowhere f hard so room) (λ _. refl)
 
 -- Two answers that the contract permits are equal, and leave the same output.
 pub one-writing : {d : def.Written} {old n₁ n₂ : List ℕ} {r₁ r₂ : Written} → Writes d old n₁ r₁ → Writes d old n₂ r₂ → (r₁ ≡ r₂) × (n₁ ≡ n₂)

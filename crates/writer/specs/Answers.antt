@@ -3,8 +3,11 @@ use Prim.Native.Nat.{ℕ}
 use mathlib.Core.List.{List, []}
 use mathlib.Core.Path.{_≡_}
 use lib.ListN.{length}
+use Rattle.dimacs.specs.Names.{refusedSpot}
+use Rattle.dimacs.specs.Spots.{nowhere}
 use Rattle.dimacs.specs.Buffers.{laid}
 use Rattle.dimacs.specs.Writing as def
+use Rattle.dimacs.specs.declared.Spot.{Spot}
 use Rattle.writer.specs.declared.Written.{Written}
 use Rattle.writer.specs.declared.Written.the-variants.{Line, Refused}
 
@@ -27,6 +30,11 @@ numberIn (Refused r) = r .number
 abbrev pub placeIn : Written → ℕ
 placeIn (Line n) = 0
 placeIn (Refused r) = r .place
+
+-- Line and column: a writer reads no text.
+abbrev pub spotIn : Written → Spot
+spotIn (Line n) = nowhere
+spotIn (Refused r) = refusedSpot r
 
 -- k: a writer reads no literals of a text.
 abbrev pub kIn : Written → ℕ

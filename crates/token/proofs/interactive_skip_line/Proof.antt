@@ -2,10 +2,10 @@
 use Prim.Native.Nat.{_+_, _-_}
 use mathlib.Core.Path.{_≡_, refl, sym, _∙_}
 use lib.ListN.{length}
+use Rattle.dimacs.specs.Lined.{alsoEnds}
 use Rattle.dimacs.specs.declared.Ends.{Ends}
 use Rattle.dimacs.proofs.Lines.{no-byte, next-line-end}
 use Rattle.dimacs.proofs.Lined.{ended-lined}
-use Rattle.token.specs.Returns.{alsoEnds}
 use Rattle.token.proofs.Returns.{Searched, skip-LF, skip-on, skip-CRLF, skip-return}
 use borrow.Author.Needs.{needs}
 use native.Mathlib.Omega.{arith}
@@ -46,11 +46,10 @@ add-result c = omega arith
 returns-2 : tie.Need-returns-2 Inv-loop μ-loop
 returns-2 c =
     let at-if3 = c .before .before in
-    let at-if2 = at-if3 .before in
-    let at-if1 = at-if2 .before in
+    let at-if1 = at-if3 .before .before in
     let in-loop = at-if1 .before .before in
     let is = in-loop .before .before .also-ends .ensures in
-    sym (skip-CRLF _ _ _ (in-loop .loop-test .taken) (at-if1 .if1 .left) _ (in-loop .before .loop .inv _ is) (at-if2 .if2 .taken ∙ is) (at-if3 .if3 .taken) (c .if4 .taken))
+    sym (skip-CRLF _ _ _ (in-loop .loop-test .taken) (at-if1 .if1 .left) _ (in-loop .before .loop .inv _ is) (at-if3 .if3 .taken) (c .if4 .taken))
 
 returns-3 : tie.Need-returns-3 Inv-loop μ-loop
 returns-3 c =
