@@ -1,9 +1,9 @@
 // Runs framed cases from standard input through the host calls.
 //
-// A frame is format, mode and length, of four bytes each, little-endian, and then so many bytes of text. Each is answered by a line: the number of the refusal or 0, and its place or the text's length. A frame that is cut off, or whose text is too long, is `cut`, and an input that cannot be read is `unreadable`; nothing follows them.
-ghost use Rattle.latchtwig.specs.Outcomes.{outcome};
+// A frame is format, mode and length, of four bytes each, little-endian, and then so many bytes of text. Each is answered by a line: the number of the refusal or 0, and its place or the text's length, by a call each; and number, place, line and column as `latchtwig_check` leaves them. A frame that is cut off, or whose text is too long, is `cut`, and an input that cannot be read is `unreadable`; nothing follows them.
+ghost use Rattle.latchtwig.specs.Outcomes.{outcome, wordsTold};
 ghost use Rattle.pages.specs.Pages.{Lays};
-ghost use Rattle.host_cases.specs.Answers.{outcomeLine};
+ghost use Rattle.host_cases.specs.Answers.{printedNumbers, outcomeLine};
 use console::Taken;
 
 // The bytes of a frame before its text.
@@ -12,8 +12,27 @@ const HEAD: usize = 12;
 // The longest text.
 const TEXT: usize = 4096;
 
-// The longest line: a number of 32 bits, a space, a number of 64 bits and the line end.
-const PAGE: usize = 32;
+// The longest line: a number of 32 bits, five of 64 bits, a space before each of these, and the line end.
+const PAGE: usize = 128;
+
+// Each number after a space.
+fn numbers(page: &mut [u8], at: usize, words: [u64; 4]) -> usize
+    ensures { λ r. ⌜ Lays at (printedNumbers words) (now (page .entry)) (now (page .exit)) r ⌝ }
+{
+    let past_number = pages::number(page, at, words[0]);
+    let past_place = pages::number(page, past_number, words[1]);
+    let past_line = pages::number(page, past_place, words[2]);
+    pages::number(page, past_line, words[3])
+}
+
+// What `latchtwig_check` leaves of a text.
+fn checked_words(page: &mut [u8], at: usize, format: u32, mode: u32, text: &[u8]) -> usize
+    ensures { λ r. ⌜ Lays at (printedNumbers (wordsTold (now (text .entry)) (outcome format mode (now (text .entry))))) (now (page .entry)) (now (page .exit)) r ⌝ }
+{
+    let mut answer = [0u64; 4];
+    latchtwig::latchtwig_check(format, mode, text, &mut answer);
+    numbers(page, at, answer)
+}
 
 // What the host calls say of a text.
 fn outcome_line(page: &mut [u8], at: usize, format: u32, mode: u32, text: &[u8]) -> usize
@@ -23,7 +42,8 @@ fn outcome_line(page: &mut [u8], at: usize, format: u32, mode: u32, text: &[u8])
     let place = latchtwig::latchtwig_place(format, mode, text);
     let past_number = pages::plain_number(page, at, number as u64);
     let past_place = pages::number(page, past_number, place);
-    pages::word(page, past_place, b"\n")
+    let past_checked = checked_words(page, past_place, format, mode, text);
+    pages::word(page, past_checked, b"\n")
 }
 
 // What a frame says before its text.

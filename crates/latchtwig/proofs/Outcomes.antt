@@ -18,7 +18,7 @@ use Rattle.sat_solver_log.specs.Answers.{Parses}
 use Rattle.formula.specs.declared.Outcome.{Outcome}
 use Rattle.formula.specs.declared.Outcome.the-variants as outcome
 use Rattle.latchtwig.specs.Outcomes as host
-use Rattle.latchtwig.specs.Outcomes.{outcomeByLog, outcomeOfLog}
+use Rattle.latchtwig.specs.Outcomes.{outcomeByLog, outcomeOfLog, Checks}
 
 -- What an answer of the log reader comes to.
 abbrev pub logTold : Log → Outcome
@@ -45,3 +45,7 @@ pub outcome-narrowed : (f m : ℕ) (s : List ℕ) → host.outcome (min f 255) (
 unfolding host.outcome kindOf kindIn
 outcome-narrowed f m s =
     rw (same-name f 0 (omega arith), same-name f 1 (omega arith), same-name f 2 (omega arith), same-name f 3 (omega arith), same-name f 4 (omega arith), same-name m 0 (omega arith), same-name m 1 (omega arith), same-name m 2 (omega arith), same-name m 3 (omega arith))
+
+-- Two answers that the contract of a check permits are equal, and leave the same words.
+pub one-check : {s l₁ l₂ : List ℕ} {o : Outcome} {r₁ r₂ : ℕ} → Checks s o l₁ r₁ → Checks s o l₂ r₂ → (r₁ ≡ r₂) × (l₁ ≡ l₂)
+one-check a b = (a .number ∙ sym (b .number), a .words ∙ sym (b .words))

@@ -1,6 +1,7 @@
 -- What a whole text comes to by any two numbers, logs among the formats, and how the host calls tell it.
 use Prim.Native.Nat.{ℕ}
-use mathlib.Core.List.{List}
+use mathlib.Core.List.{List, [], _∷_}
+use mathlib.Core.Path.{_≡_}
 use lib.ListN.{length}
 use Rattle.dimacs.specs.Names.{Reason, callRefusal, ownRoom, kindOf}
 use Rattle.dimacs.specs.Logs.{LogAnswer, accepted, refusedLog, log}
@@ -39,3 +40,22 @@ numberTold (Refused r) = r .number
 abbrev pub placeTold : List ℕ → Outcome → ℕ
 placeTold s Read = length s
 placeTold s (Refused r) = r .place
+
+-- The line of the refusal, or 0 for a text read to its end.
+abbrev pub lineTold : Outcome → ℕ
+lineTold Read = 0
+lineTold (Refused r) = r .line
+
+-- The column of the refusal, or 0 for a text read to its end.
+abbrev pub columnTold : Outcome → ℕ
+columnTold Read = 0
+columnTold (Refused r) = r .column
+
+-- All four, in this order.
+abbrev pub wordsTold : List ℕ → Outcome → List ℕ
+wordsTold s o = numberTold o ∷ placeTold s o ∷ lineTold o ∷ columnTold o ∷ []
+
+-- What a check of a text leaves and answers, by what the text comes to.
+pub record Checks (s : List ℕ) (o : Outcome) (left : List ℕ) (r : ℕ) : Type 0 where
+  pub words : left ≡ wordsTold s o
+  pub number : r ≡ numberTold o

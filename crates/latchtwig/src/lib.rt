@@ -1,9 +1,9 @@
-// Whole texts checked by number, for callers in other languages: one call answers a refusal's number, the other its place.
+// Whole texts checked by number, for callers in other languages: one call answers a refusal's number, one its place, and one tells both with line and column.
 //
 // Each takes the numbers of a format and a mode and a byte slice, by the C calling convention. host/latchtwig.h declares them for C, host/rust for Rust.
 ghost use mathlib.Core.Path.{_≡_};
 ghost use Prim.Native.Nat.{min};
-ghost use Rattle.latchtwig.specs.Outcomes.{outcomeOfLog, outcome, numberTold, placeTold};
+ghost use Rattle.latchtwig.specs.Outcomes.{outcomeOfLog, outcome, numberTold, placeTold, wordsTold, Checks};
 use dimacs::FORMAT_OR_MODE_UNKNOWN;
 use dimacs::Kind;
 use dimacs::Mode;
@@ -58,15 +58,36 @@ fn check(text: &[u8], format: u32, mode: u32) -> Outcome
     read(text, narrowed(format), narrowed(mode))
 }
 
+fn number_told(outcome: Outcome) -> u32
+    ensures { λ r. ⌜ r ≡ numberTold outcome ⌝ }
+{
+    match outcome {
+        Outcome::Read => 0,
+        Outcome::Refused(refusal) => refusal.number as u32,
+    }
+}
+
+// Number, place, line and column.
+fn words_told(outcome: Outcome, text: &[u8]) -> [u64; 4]
+    ensures { λ r. ⌜ r ≡ wordsTold (now (text .entry)) outcome ⌝ }
+{
+    match outcome {
+        Outcome::Read => [0, text.len() as u64, 0, 0],
+        Outcome::Refused(refusal) => [
+            refusal.number as u64,
+            refusal.place as u64,
+            refusal.line as u64,
+            refusal.column as u64,
+        ],
+    }
+}
+
 // The number of the refusal that the text comes to, or 0 if it is read to its end.
 #[no_mangle]
 pub extern "C" fn latchtwig_refusal(format: u32, mode: u32, text: &[u8]) -> u32
     ensures { λ r. ⌜ r ≡ numberTold (outcome format mode (now (text .entry))) ⌝ }
 {
-    match check(text, format, mode) {
-        Outcome::Read => 0,
-        Outcome::Refused(refusal) => refusal.number as u32,
-    }
+    number_told(check(text, format, mode))
 }
 
 // The place of the refusal that the text comes to, or the text's length if it is read to its end.
@@ -78,4 +99,14 @@ pub extern "C" fn latchtwig_place(format: u32, mode: u32, text: &[u8]) -> u64
         Outcome::Read => text.len() as u64,
         Outcome::Refused(refusal) => refusal.place as u64,
     }
+}
+
+// That number, which is answered and left in the array, and after it there the refusal's place, line and column. Of a text read to its end the place is its length, and line and column are 0.
+#[no_mangle]
+pub extern "C" fn latchtwig_check(format: u32, mode: u32, text: &[u8], answer: &mut [u64; 4]) -> u32
+    ensures { λ r. ⌜ Checks (now (text .entry)) (outcome format mode (now (text .entry))) (now (answer .exit)) r ⌝ }
+{
+    let outcome = check(text, format, mode);
+    *answer = words_told(outcome, text);
+    number_told(outcome)
 }

@@ -43,15 +43,20 @@ printedClause f extra so = bytes "clause" ++ printedLead f extra ++ printedLiter
 abbrev pub printedPlacedRefusal : Refusal → List ℕ → List ℕ
 printedPlacedRefusal r placeWord = printedLabel (bytes "refused") (r .number) ++ printedLabel placeWord (r .place)
 
--- A refusal's number, its place after a word, and k after a word.
-abbrev pub printedRefusal : Refusal → ℕ → List ℕ → List ℕ → List ℕ
-printedRefusal r k placeWord countWord = printedPlacedRefusal r placeWord ++ printedLabel countWord k
+-- A refusal's line and its column, each after a word.
+abbrev pub printedSpot : Refusal → List ℕ → List ℕ → List ℕ
+printedSpot r lineWord columnWord = printedLabel lineWord (r .line) ++ printedLabel columnWord (r .column)
 
--- How a text opens; the two words are those of a refusal, whose k is 0.
-abbrev pub printedOpening : Opening → Format → List ℕ → List ℕ → List ℕ
-printedOpening (opening.Header h _) f placeWord countWord = printedHeader f h
-printedOpening (NoHeader _) f placeWord countWord = bytes "header none"
-printedOpening (Refused r) f placeWord countWord = printedRefusal r 0 placeWord countWord
+-- A refusal's number, and its place, k, its line and its column, each after a word.
+abbrev pub printedRefusal : Refusal → ℕ → List ℕ → List ℕ → List ℕ → List ℕ → List ℕ
+printedRefusal r k placeWord countWord lineWord columnWord =
+    printedPlacedRefusal r placeWord ++ printedLabel countWord k ++ printedSpot r lineWord columnWord
+
+-- How a text opens; the four words are those of a refusal, whose k is 0.
+abbrev pub printedOpening : Opening → Format → List ℕ → List ℕ → List ℕ → List ℕ → List ℕ
+printedOpening (opening.Header h _) f placeWord countWord lineWord columnWord = printedHeader f h
+printedOpening (NoHeader _) f placeWord countWord lineWord columnWord = bytes "header none"
+printedOpening (Refused r) f placeWord countWord lineWord columnWord = printedRefusal r 0 placeWord countWord lineWord columnWord
 
 -- The number of a case.
 abbrev pub printedCase : ℕ → List ℕ

@@ -2,7 +2,7 @@
 ghost use mathlib.Core.List.{[]};
 ghost use Rattle.dimacs.specs.Writing.{thirdDigits};
 ghost use Rattle.pages.specs.Pages.{Lays};
-ghost use Rattle.lines.specs.Printed.{printedLabel, printedHeader, printedWeight, printedLead, printedClause, printedRefusal, printedPlacedRefusal, printedOpening, printedCase, printedLine};
+ghost use Rattle.lines.specs.Printed.{printedLabel, printedHeader, printedWeight, printedLead, printedClause, printedRefusal, printedPlacedRefusal, printedSpot, printedOpening, printedCase, printedLine};
 use dimacs::Format;
 use dimacs::HARD;
 use dimacs::Header;
@@ -87,7 +87,15 @@ fn refused_at(page: &mut [u8], at: usize, r: Refusal, place_word: &[u8]) -> usiz
     labelled(page, past, place_word, r.place as u64)
 }
 
-// Number, place and k of a refusal, a word of the caller's before the place and one before k.
+// Line and column of a refusal, a word of the caller's before each.
+fn spot_words(page: &mut [u8], at: usize, r: Refusal, line_word: &[u8], column_word: &[u8]) -> usize
+    ensures { λ past. ⌜ Lays at (printedSpot r (now («line_word» .entry)) (now («column_word» .entry))) (now (page .entry)) (now (page .exit)) past ⌝ }
+{
+    let past = labelled(page, at, line_word, r.line as u64);
+    labelled(page, past, column_word, r.column as u64)
+}
+
+// Number, place, k, line and column of a refusal, a word of the caller's before each but the number.
 pub fn refused_words(
     page: &mut [u8],
     at: usize,
@@ -95,11 +103,14 @@ pub fn refused_words(
     count: usize,
     place_word: &[u8],
     count_word: &[u8],
+    line_word: &[u8],
+    column_word: &[u8],
 ) -> usize
-    ensures { λ past. ⌜ Lays at (printedRefusal r count (now («place_word» .entry)) (now («count_word» .entry))) (now (page .entry)) (now (page .exit)) past ⌝ }
+    ensures { λ past. ⌜ Lays at (printedRefusal r count (now («place_word» .entry)) (now («count_word» .entry)) (now («line_word» .entry)) (now («column_word» .entry))) (now (page .entry)) (now (page .exit)) past ⌝ }
 {
-    let past = refused_at(page, at, r, place_word);
-    labelled(page, past, count_word, count as u64)
+    let past_place = refused_at(page, at, r, place_word);
+    let past_count = labelled(page, past_place, count_word, count as u64);
+    spot_words(page, past_count, r, line_word, column_word)
 }
 
 // How a text opens; these words are for a refusal.
@@ -110,13 +121,24 @@ pub fn opening_words(
     format: Format,
     place_word: &[u8],
     count_word: &[u8],
+    line_word: &[u8],
+    column_word: &[u8],
 ) -> usize
-    ensures { λ r. ⌜ Lays at (printedOpening opening format (now («place_word» .entry)) (now («count_word» .entry))) (now (page .entry)) (now (page .exit)) r ⌝ }
+    ensures { λ r. ⌜ Lays at (printedOpening opening format (now («place_word» .entry)) (now («count_word» .entry)) (now («line_word» .entry)) (now («column_word» .entry))) (now (page .entry)) (now (page .exit)) r ⌝ }
 {
     match opening {
         Opening::Header(header, _) => header_words(page, at, header, format),
         Opening::NoHeader(_) => word(page, at, b"header none"),
-        Opening::Refused(refusal) => refused_words(page, at, refusal, 0, place_word, count_word),
+        Opening::Refused(refusal) => refused_words(
+            page,
+            at,
+            refusal,
+            0,
+            place_word,
+            count_word,
+            line_word,
+            column_word,
+        ),
     }
 }
 

@@ -42,10 +42,10 @@ fn word_of(page: &mut [u8], at: usize, text: &[u8], ends: Ends, r: Refusal) -> u
     stopped_word(page, at, token::stopped_at(text, ends, r.place))
 }
 
-// Number, place and k of a refusal, and the word it stopped at.
+// Number, place, k, line and column of a refusal, and the word it stopped at.
 fn refused(page: &mut [u8], text: &[u8], ends: Ends, r: Refusal, count: usize) {
-    let past_count = lines::refused_words(page, 0, r, count, b"", b"");
-    let past_word = word_of(page, past_count, text, ends, r);
+    let past_spot = lines::refused_words(page, 0, r, count, b"", b"", b"", b"");
+    let past_word = word_of(page, past_spot, text, ends, r);
     let past = word(page, past_word, b"\n");
     show(page, past);
 }

@@ -159,7 +159,7 @@ fn told_words(
         } => {
             let past_ticket = number(page, at, ticket);
             let past = word(page, past_ticket, b" ");
-            said_words(page, past, said, format, lits, b"", b"")
+            said_words(page, past, said, format, lits, b"", b"", b"", b"")
         }
     }
 }

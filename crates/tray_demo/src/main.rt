@@ -184,7 +184,17 @@ fn told_line(page: &mut [u8], answer: TurnAnswer, job: Job, taken: usize, lits: 
         TurnAnswer::Told { ticket, said, last } => {
             let at = ticket_words(page, ticket);
             let format = format_of(job);
-            let past_said = said_words(page, at, said, format, lits, b" at", b", literals");
+            let past_said = said_words(
+                page,
+                at,
+                said,
+                format,
+                lits,
+                b" at",
+                b", literals",
+                b", line",
+                b", column",
+            );
             let past_turns = last_words(page, past_said, last, taken, job.length);
             let past = word(page, past_turns, b"\n");
             print(upto(page, past));

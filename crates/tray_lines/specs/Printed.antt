@@ -1,4 +1,4 @@
--- The words for what a turn tells a job. The two words at the end of each are those of a refusal, before its place and before k.
+-- The words for what a turn tells a job. The four words at the end of each are those of a refusal, before its place, k, its line and its column.
 use Prim.Native.Nat.{ℕ}
 use mathlib.Core.List.{List}
 use lib.ListN.{take}
@@ -12,12 +12,12 @@ use Rattle.service.specs.declared.Said.the-variants as saying
 use Rattle.lines.specs.Printed.{printedClause, printedRefusal, printedOpening}
 
 -- An answer of the reader, whose literals are the first of the buffer.
-abbrev pub printedNext : Next → Format → List ℤ → List ℕ → List ℕ → List ℕ
-printedNext (Clause extra count) f lits placeWord countWord = printedClause f extra (take count lits)
-printedNext Ended f lits placeWord countWord = bytes "end"
-printedNext (Refused r count) f lits placeWord countWord = printedRefusal r count placeWord countWord
+abbrev pub printedNext : Next → Format → List ℤ → List ℕ → List ℕ → List ℕ → List ℕ → List ℕ
+printedNext (Clause extra count) f lits placeWord countWord lineWord columnWord = printedClause f extra (take count lits)
+printedNext Ended f lits placeWord countWord lineWord columnWord = bytes "end"
+printedNext (Refused r count) f lits placeWord countWord lineWord columnWord = printedRefusal r count placeWord countWord lineWord columnWord
 
 -- How a text opens, or an answer of the reader.
-abbrev pub printedSaid : Said → Format → List ℤ → List ℕ → List ℕ → List ℕ
-printedSaid (saying.Opening o) f lits placeWord countWord = printedOpening o f placeWord countWord
-printedSaid (saying.Next n) f lits placeWord countWord = printedNext n f lits placeWord countWord
+abbrev pub printedSaid : Said → Format → List ℤ → List ℕ → List ℕ → List ℕ → List ℕ → List ℕ
+printedSaid (saying.Opening o) f lits placeWord countWord lineWord columnWord = printedOpening o f placeWord countWord lineWord columnWord
+printedSaid (saying.Next n) f lits placeWord countWord lineWord columnWord = printedNext n f lits placeWord countWord lineWord columnWord

@@ -21,7 +21,7 @@ fn first(lits: &[i32], count: usize) -> &[i32]
     &lits[..count]
 }
 
-// An answer of the reader, whose literals are the first of those lent; the two words are for a refusal.
+// An answer of the reader, whose literals are the first of those lent; the four words are for a refusal.
 fn next_words(
     page: &mut [u8],
     at: usize,
@@ -30,8 +30,10 @@ fn next_words(
     lits: &[i32],
     place_word: &[u8],
     count_word: &[u8],
+    line_word: &[u8],
+    column_word: &[u8],
 ) -> usize
-    ensures { λ r. ⌜ Lays at (printedNext next format (now (lits .entry)) (now («place_word» .entry)) (now («count_word» .entry))) (now (page .entry)) (now (page .exit)) r ⌝ }
+    ensures { λ r. ⌜ Lays at (printedNext next format (now (lits .entry)) (now («place_word» .entry)) (now («count_word» .entry)) (now («line_word» .entry)) (now («column_word» .entry))) (now (page .entry)) (now (page .exit)) r ⌝ }
 {
     match next {
         Next::Clause { extra, count } => {
@@ -39,7 +41,16 @@ fn next_words(
         }
         Next::Ended => word(page, at, b"end"),
         Next::Refused { refusal, count } => {
-            refused_words(page, at, refusal, count, place_word, count_word)
+            refused_words(
+                page,
+                at,
+                refusal,
+                count,
+                place_word,
+                count_word,
+                line_word,
+                column_word,
+            )
         }
     }
 }
@@ -53,11 +64,32 @@ pub fn said_words(
     lits: &[i32],
     place_word: &[u8],
     count_word: &[u8],
+    line_word: &[u8],
+    column_word: &[u8],
 ) -> usize
-    ensures { λ r. ⌜ Lays at (printedSaid said format (now (lits .entry)) (now («place_word» .entry)) (now («count_word» .entry))) (now (page .entry)) (now (page .exit)) r ⌝ }
+    ensures { λ r. ⌜ Lays at (printedSaid said format (now (lits .entry)) (now («place_word» .entry)) (now («count_word» .entry)) (now («line_word» .entry)) (now («column_word» .entry))) (now (page .entry)) (now (page .exit)) r ⌝ }
 {
     match said {
-        Said::Opening(opening) => opening_words(page, at, opening, format, place_word, count_word),
-        Said::Next(next) => next_words(page, at, next, format, lits, place_word, count_word),
+        Said::Opening(opening) => opening_words(
+            page,
+            at,
+            opening,
+            format,
+            place_word,
+            count_word,
+            line_word,
+            column_word,
+        ),
+        Said::Next(next) => next_words(
+            page,
+            at,
+            next,
+            format,
+            lits,
+            place_word,
+            count_word,
+            line_word,
+            column_word,
+        ),
     }
 }

@@ -13,9 +13,9 @@ use Rattle.writer.specs.declared.Written.the-variants.{Line, Refused}
 abbrev pub writtenLine : List ℕ → List ℕ
 writtenLine w = printedLine (printedLabel (bytes "written") (length w) ++ bytes " " ++ printedHexWord w)
 
--- The refusal, whose k is 0.
+-- The refusal, whose k is 0 as are its line and its column.
 abbrev pub refusedCallLine : Refusal → List ℕ
-refusedCallLine r = printedLine (printedRefusal r 0 [] [])
+refusedCallLine r = printedLine (printedRefusal r 0 [] [] [] [])
 
 -- The line that stands in the output, or the refusal.
 abbrev pub callLine : Written → List ℕ → List ℕ

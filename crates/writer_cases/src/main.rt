@@ -3,7 +3,7 @@
 // A frame is format, kind and length of the output, of one, one and four bytes; three numbers of
 // eight bytes; and the count of literals and so many literals, of four bytes each; all little-endian. Kind 0 is a header, of these three counts; kind 1 is
 // a clause, and the first number its weight or group; kind 2 is a hard clause, whose numbers are not looked at. Each call is answered by `case N` and `written LENGTH BYTES`, the bytes in hexadecimal, or by
-// `refused NUMBER PLACE 0`. A kind that is none of these is refused as an unknown format is.
+// `refused NUMBER PLACE 0 0 0`. A kind that is none of these is refused as an unknown format is.
 // Too many literals are `long`, and passed over; a frame that is cut off is `cut`, and an input that cannot be read is `unreadable`, and nothing follows them.
 ghost use Rattle.pages.specs.Pages.{Lays};
 ghost use Rattle.writer_cases.specs.Answers.{writtenLine, refusedCallLine, callLine};
@@ -77,7 +77,7 @@ fn written_line(page: &mut [u8], at: usize, w: &[u8]) -> usize
 fn refused_call_line(page: &mut [u8], at: usize, r: Refusal) -> usize
     ensures { λ past. ⌜ Lays at (refusedCallLine r) (now (page .entry)) (now (page .exit)) past ⌝ }
 {
-    let past = lines::refused_words(page, at, r, 0, b"", b"");
+    let past = lines::refused_words(page, at, r, 0, b"", b"", b"", b"");
     lines::word(page, past, b"\n")
 }
 

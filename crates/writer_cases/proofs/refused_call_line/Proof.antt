@@ -10,6 +10,12 @@ slice-aggregate-refused-words c = search needs
 slice-aggregate-refused-words-2 : tie.Need-slice-aggregate-refused-words-2
 slice-aggregate-refused-words-2 c = search needs
 
+slice-aggregate-refused-words-3 : tie.Need-slice-aggregate-refused-words-3
+slice-aggregate-refused-words-3 c = search needs
+
+slice-aggregate-refused-words-4 : tie.Need-slice-aggregate-refused-words-4
+slice-aggregate-refused-words-4 c = search needs
+
 refused-words-requires : tie.Need-refused-words-requires
 refused-words-requires c κs = search needs
 
@@ -33,6 +39,8 @@ refused-call-line-spec =
     (tie.spec
     slice-aggregate-refused-words
     slice-aggregate-refused-words-2
+    slice-aggregate-refused-words-3
+    slice-aggregate-refused-words-4
     refused-words-requires
     slice-aggregate-word
     word-requires
