@@ -33,8 +33,10 @@ IN_2022 = []
 RETURNS = []
 
 
-def refused(number, place, k=0, word=b""):
-    return " ".join(["refused", str(number), str(place), str(k)] + [word.hex()] * bool(word))
+def refused(number, place, k=0, word=b"", spot=None):
+    """A refusal on line 1, whose columns go by the place, or one at a line and a column."""
+    line, column = spot or (1, place + 1)
+    return " ".join(["refused", *map(str, (number, place, k, line, column))] + [word.hex()] * bool(word))
 
 
 def case(text, *lines, format=PLAIN, mode=STRICT, room=ROOM):
@@ -72,16 +74,16 @@ case(b"", NONE, "end")
 case(b"0", NONE, "clause", "end")
 case(b"1 0 2 0\n", NONE, refused(5, 4, 1, b"2"))
 case(b"p cnf 0 0\n7 0\n", "header 0 0", "clause 7", "end")
-case(b"p cnf 2 1\n3 0\n", "header 2 1", refused(15, 10, 0, b"3"))
-case(b"p cnf 2 2\n1 0\n", "header 2 2", "clause 1", refused(9, 14))
-case(b"p cnf 2 1\n1 0\n2 0\n", "header 2 1", "clause 1", refused(9, 14, 0, b"2"))
+case(b"p cnf 2 1\n3 0\n", "header 2 1", refused(15, 10, 0, b"3", (2, 1)))
+case(b"p cnf 2 2\n1 0\n", "header 2 2", "clause 1", refused(9, 14, spot=(3, 1)))
+case(b"p cnf 2 1\n1 0\n2 0\n", "header 2 1", "clause 1", refused(9, 14, 0, b"2", (3, 1)))
 case(b"1 2", NONE, refused(6, 3, 2))
-case(b"1 \nx", NONE, refused(7, 3, 1, b"x"))
-case(b"p gcnf 2 2 1\n{0} 1 0\n{2} 2 0\n", "header 2 2 1", "clause {0}: 1", refused(14, 21, 0, b"{2}"), format=GROUPED)
-case(b"5\n", NONE, refused(8, 2), format=WEIGHTED)
+case(b"1 \nx", NONE, refused(7, 3, 1, b"x", (2, 1)))
+case(b"p gcnf 2 2 1\n{0} 1 0\n{2} 2 0\n", "header 2 2 1", "clause {0}: 1", refused(14, 21, 0, b"{2}", (3, 1)), format=GROUPED)
+case(b"5\n", NONE, refused(8, 2, spot=(2, 1)), format=WEIGHTED)
 case(b"s SATISFIABLE \n", refused(5, 13, 0, b" "), format=LOG)
-case(b"v 1 -2\n", refused(19, 7, 2), format=LOG)
-case(b"s UNKNOWN\ns SATISFIABLE\n", refused(18, 10, 0, b"s"), format=LOG)
+case(b"v 1 -2\n", refused(19, 7, 2, spot=(2, 1)), format=LOG)
+case(b"s UNKNOWN\ns SATISFIABLE\n", refused(18, 10, 0, b"s", (2, 1)), format=LOG)
 case(b"s UNKNOWN\ns SATISFIABLE\n", *UNKNOWN, format=LOG, mode=LENIENT)
 
 # The others there, and the text of the listing.
@@ -135,9 +137,9 @@ in_2022(b"-0 1 0", refused(9, 0, 0, b"-0"))
 in_2022(b"+5 1 0", refused(9, 0, 0, b"+5"))
 in_2022(b"0x 1 0", refused(9, 0, 0, b"0x"))
 in_2022(b"p wcnf 1 1 1\n", refused(33, 0, 0, b"p"))
-in_2022(b"c x\np", refused(33, 4, 0, b"p"))
+in_2022(b"c x\np", refused(33, 4, 0, b"p", (2, 1)))
 in_2022(b"pcnf", refused(9, 0, 0, b"pcnf"))
-in_2022(b"1 1 0\np", "clause 1: 1", refused(33, 6, 0, b"p"))
+in_2022(b"1 1 0\np", "clause 1: 1", refused(33, 6, 0, b"p", (2, 1)))
 in_2022(b"7\nc x\n1 0", "clause 7: 1", "end")
 in_2022(b"7 1 0 h 2 0", refused(5, 6, 1, b"h"))
 in_2022(b"h 2147483648 0", refused(15, 2, 0, b"2147483648"))
@@ -170,16 +172,16 @@ returns(b"1\r0", (NONE, refused(6, 1, 1, b"\r0")), (NONE, "clause 1", "end"))
 returns(b"p cnf 1 1\r1 0", (refused(5, 9, 0, b"\r1"),), ("header 1 1", "clause 1", "end"))
 returns(b"\r", (NONE, refused(9, 0, 0, b"\r")), (NONE, "end"))
 returns(b"1 0\r\r2 0", (NONE, refused(5, 3, 1, b"\r")), (NONE, "clause 1", "clause 2", "end"))
-returns(b"1\r\r", (NONE, refused(6, 1, 1, b"\r")), (NONE, refused(7, 3, 1)))
+returns(b"1\r\r", (NONE, refused(6, 1, 1, b"\r")), (NONE, refused(7, 3, 1, spot=(3, 1))))
 returns(b"5\r1 0\r", (NONE, refused(8, 1, 0, b"\r1")), (NONE, "clause 5: 1", "end"), format=WEIGHTED)
 returns(b"h\r0", (NONE, refused(8, 1, 0, b"\r0")), (NONE, "clause h:", "end"), format=WEIGHTED_2022)
 returns(b"s SATISFIABLE\r", (refused(5, 13, 0, b"\r"),), ("verdict yes", "literals"), format=LOG)
 returns(b"c x\rs SATISFIABLE\r", UNANSWERED, ("verdict yes", "literals"), format=LOG)
 returns(b"s UNKNOWN\r\n", UNKNOWN, UNKNOWN, format=LOG)
-for mode, said in enumerate([refused(5, 9, 0, b"\rs")] * 2 + [refused(18, 10, 0, b"s")]):
+for mode, said in enumerate([refused(5, 9, 0, b"\rs")] * 2 + [refused(18, 10, 0, b"s", (2, 1))]):
     RETURNS.append((LOG, mode, ROOM, b"s UNKNOWN\rs SATISFIABLE\r", (said,)))
 RETURNS.append((LOG, LENIENT_CR, ROOM, b"s UNKNOWN\rs SATISFIABLE\r", UNKNOWN))
-for mode, said in (STRICT_CR, [refused(15, 10, 0, b"2")]), (LENIENT_CR, ["clause 2", "end"]):
+for mode, said in (STRICT_CR, [refused(15, 10, 0, b"2", (2, 1))]), (LENIENT_CR, ["clause 2", "end"]):
     RETURNS.append((PLAIN, mode, ROOM, b"p cnf 1 1\r2 0\r", ("header 1 1", *said)))
 
 

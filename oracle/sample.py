@@ -44,7 +44,7 @@ def kind(format, mode, text, lines):
     header = 0 if first[0] != b"header" else 1 if first[1] == b"none" else 2
     clauses = sum(line.startswith(b"clause") for line in lines)
     if number:
-        *_, k, word = (lines[-1].split() + [b""])[:5]
+        k, _, _, word = (lines[-1].split() + [b""])[3:7]
         detail = header, min(clauses, 1), min(int(k), 2), word != b""
     elif format == 3:
         detail = first[1], min(len(lines[1].split()), 3)

@@ -30,6 +30,7 @@ number = re.compile(rb"([0-9]+)" + STOPS + BLANKS)
 group = re.compile(rb"\{([0-9]+)\}" + BLANKS)
 literal = re.compile(rb"(-?[0-9]+)" + STOPS + BLANKS)
 blanks = re.compile(BLANKS)
+lone_return = re.compile(rb"\r(?!\n)")
 
 
 class Refused(Exception):
@@ -201,6 +202,12 @@ def log(text, lenient, lines, room, said):
             raise Refused(18, at, len(read))
 
 
+def spot(mode, text, at):
+    """Line and column of a place: a lone CR counts as LF in modes 2 and 3."""
+    read = lone_return.sub(b"\n", text) if mode >= 2 else text
+    return read.count(b"\n", 0, at) + 1, at - read.rfind(b"\n", 0, at)
+
+
 def transcript(format, mode, room, text):
     """What is said of a text after its `case N`, in a mode from 0 to 3."""
     said, lines, lenient = [], LINES[mode // 2], mode % 2 == 1
@@ -211,22 +218,23 @@ def transcript(format, mode, room, text):
             formula(text, format, lenient, lines, room, said)
     except Refused as refusal:
         stopped = lines.word.match(text, refusal.args[1])
-        said.append(" ".join(["refused", *map(str, refusal.args), *([stopped[0].hex()] if stopped else [])]))
+        told = *refusal.args, *spot(mode, text, refusal.args[1])
+        said.append(" ".join(["refused", *map(str, told), *([stopped[0].hex()] if stopped else [])]))
     return said
 
 
 def written(kind, length, numbers, lits):
     """What is said of a call of a writer after its `case N`."""
     if kind not in (frames.CLAUSE, frames.HARD_CLAUSE):
-        return ["refused 26 0 0"]
+        return ["refused 26 0 0 0 0"]
     begun = "h" if kind == frames.HARD_CLAUSE else str(numbers[0])
     if begun == "0":
-        return ["refused 32 0 0"]
+        return ["refused 32 0 0 0 0"]
     for index, lit in enumerate(lits):
         if not 0 < abs(lit) <= CEILING:
-            return [f"refused 27 {index} 0"]
+            return [f"refused 27 {index} 0 0 0"]
     line = " ".join([begun, *map(str, lits), "0\n"]).encode()
-    return [f"written {len(line)} {line.hex()}"] if len(line) <= length else ["refused 28 0 0"]
+    return [f"written {len(line)} {line.hex()}"] if len(line) <= length else ["refused 28 0 0 0 0"]
 
 
 def of_text(format, mode, room, text):

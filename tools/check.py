@@ -3,7 +3,7 @@
 usage: tools/check [--list] FORMAT MODE [FILE...]    (FORMAT plain, weighted, grouped, log or weighted2022; MODE strict, lenient, strict-cr or lenient-cr)
 
 For each FILE, or for standard input (`-`, or none named), one line says that it is accepted, a log with its verdict and what that means for the order, or how it is refused:
-the number, the place, and what is expected there. With --list what was read comes before it: the header and each clause, or the literals of a log. The program `reader_cases`
+FILE:LINE:COLUMN, the number, and what is expected there. With --list what was read comes before it: the header and each clause, or the literals of a log. The program `reader_cases`
 reads the files; it is proved and built first.
 
 In the modes with -cr a CR without LF ends a line too. In the others a text with such lines is one comment if it begins with one, and is accepted as a formula without clauses.
@@ -86,14 +86,15 @@ def texts(files):
 
 
 def verdict(lines):
-    """One line for what `reader_cases` says of a text."""
+    """Line and column where `reader_cases` refuses a text, if it does, and what it says of the text in words."""
     first, last = lines[0].split(), lines[-1].split()
     if last[0] == "refused":
-        return f"refused {last[1]} at byte {last[2]}: {words(int(last[1]))}"
+        _, number, _, _, line, column = last[:6]
+        return f":{line}:{column}", f"refused {number}: {words(int(number))}"
     if first[0] == "verdict" and last[0] == "literals":
-        return f"accepted, {lines[0]}: {ORDER[first[1]]}"
+        return "", f"accepted, {lines[0]}: {ORDER[first[1]]}"
     if last == ["end"]:
-        return "accepted"
+        return "", "accepted"
     raise ValueError(lines[-1])
 
 
@@ -103,9 +104,9 @@ def read(lines):
 
 
 def verdicts(format, mode, given):
-    """What was read of each text, and one line for it. Nothing is told of any if the program does not answer each as it should."""
+    """What was read of each text, and what `verdict` tells of it. Nothing is told of any if the program does not answer each as it should."""
     try:
-        said = [(read(lines), verdict(lines)) for lines in answers(*((format, mode, text) for _, text in given))] if given else []
+        said = [(read(lines), *verdict(lines)) for lines in answers(*((format, mode, text) for _, text in given))] if given else []
     except (OSError, subprocess.CalledProcessError):
         raise Stop("check: the program reader_cases cannot be run")
     except (IndexError, KeyError, ValueError):
@@ -140,10 +141,10 @@ def status(arguments):
     given = list(texts(files))
     said = verdicts(FORMATS.index(format), MODES.index(mode), given)
     if given:
-        tell("\n".join("\n".join([*lines * listed, f"{name}: {told}"]) for (name, _), (lines, told) in zip(given, said)))
+        tell("\n".join("\n".join([*lines * listed, f"{name}{where}: {told}"]) for (name, _), (lines, where, told) in zip(given, said)))
     if len(given) < len(files):
         return 2
-    return 1 if any(told.startswith("refused") for _, told in said) else 0
+    return 1 if any(told.startswith("refused") for _, _, told in said) else 0
 
 
 def main():

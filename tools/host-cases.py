@@ -29,11 +29,12 @@ def stored(where):
         last = lines[-1].split()
         if last[0] != b"refused":
             assert last[0] in (b"end", b"literals")
-            cases.append((format, mode, text, 0, len(text)))
+            cases.append((format, mode, text, 0, len(text), 0, 0))
         elif int(last[1]) == BUFFER_FULL:
             left_out += 1
         else:
-            cases.append((format, mode, text, int(last[1]), int(last[2])))
+            number, place, _, line, column = map(int, last[1:6])
+            cases.append((format, mode, text, number, place, line, column))
     return cases, left_out
 
 
@@ -43,9 +44,9 @@ def unknown():
     for text in (b"", b"1 0\n", b"1 0 2 0\n"):
         for n in odd:
             for known in (0, 1):
-                yield n, known, text, UNKNOWN, 0
+                yield n, known, text, UNKNOWN, 0, 0, 0
             for known in (0, 1, 2, 3, 4, 256):
-                yield known, 4 if n == 5 else n, text, UNKNOWN, 0
+                yield known, 4 if n == 5 else n, text, UNKNOWN, 0, 0, 0
 
 
 def full():
@@ -64,11 +65,12 @@ def full():
             for mode in (0, 1):
                 text = before + b"1 " * count + after
                 if count > ROOM:
-                    yield format, mode, text, BUFFER_FULL, len(before) + 2 * ROOM
+                    line, column = (2, len(before) - before.index(b"\n")) if b"\n" in before else (1, len(before) + 1)
+                    yield format, mode, text, BUFFER_FULL, len(before) + 2 * ROOM, line, column + 2 * ROOM
                 elif after.endswith(b"s SATISFIABLE\n") and mode == 0:
-                    yield format, mode, text, LOG_LINE_EXPECTED, len(text) - len(b"s SATISFIABLE\n")
+                    yield format, mode, text, LOG_LINE_EXPECTED, len(text) - len(b"s SATISFIABLE\n"), 3, 1
                 else:
-                    yield format, mode, text, 0, len(text)
+                    yield format, mode, text, 0, len(text), 0, 0
 
 
 def main():
@@ -76,9 +78,9 @@ def main():
     cases, left_out = stored(source)
     added = [*unknown(), *full()]
     with open(f"{target}/stdin", "wb") as given, open(f"{target}/stdout", "w") as said:
-        for format, mode, text, number, place in cases + added:
+        for format, mode, text, number, place, line, column in cases + added:
             given.write(frames.host_case(format, mode, text))
-            said.write(f"{number} {place}\n")
+            said.write(f"{number} {place} {number} {place} {line} {column}\n")
     print(f"{len(cases)} stored cases, {left_out} left out for their room, {len(added)} added")
 
 

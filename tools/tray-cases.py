@@ -46,10 +46,10 @@ NAMES = [re.compile(name + WORD_ENDS) for name in (rb"cnf", rb"wcnf", rb"gcnf")]
 
 
 class Refused(Exception):
-    """A text is refused: number, place and k."""
+    """A text is refused: number, place and k, and then line and column."""
 
     def words(self):
-        return "refused %d %d %d" % self.args
+        return "refused %d %d %d %d %d" % self.args
 
 
 class Reader:
@@ -63,6 +63,11 @@ class Reader:
         self.place = 0
         self.literal_limit, self.group_limit, self.clause_limit = CEILING, LARGEST, 0
         self.count = 0
+
+    def spot(self, text, at):
+        """Line and column of a place."""
+        starts = [0, *(found.end() for found in self.line_end.finditer(text) if found.end() <= at)]
+        return len(starts), at - starts[-1] + 1
 
     def skipped(self, text, at):
         """Past any comments and line ends."""
@@ -236,12 +241,15 @@ class Tray:
 
     def served(self, job, area):
         if job.start + job.length > len(area):
-            raise Refused(21, 0, 0)
+            raise Refused(21, 0, 0, 0, 0)
         text = bytes(area[job.start : job.start + job.length])
-        if job.begun:
-            return job.reader.next(text)
+        call = job.reader.next if job.begun else job.reader.open
         job.begun = True
-        return job.reader.open(text)
+        try:
+            return call(text)
+        except Refused as refusal:
+            number, place, k = refusal.args
+            raise Refused(number, place, k, *job.reader.spot(text, place))
 
     def back(self, job):
         self.waiting.append(job)

@@ -1,4 +1,4 @@
-//! The line and column of a place, as the crate counts them.
+//! The line and column of a place, by document 02 and as the crate counts them.
 
 /// What is read. It says which lines the crate passes over whole.
 #[derive(Copy, Clone)]
@@ -16,28 +16,38 @@ pub struct Position {
 }
 
 impl Position {
-    /// The position of a place at which a text is refused: the line is one plus the LF bytes before
-    /// it, the column one plus the bytes since the last of them.
+    /// The position of a place: the line is one plus the LF bytes before it, the column one plus the
+    /// bytes since the last of them.
+    pub fn of(place: usize, text: &[u8]) -> Position {
+        let (above, line) = split(&text[..place]);
+        Position {
+            line: above.iter().filter(|&&byte| byte == b'\n').count() + 1,
+            column: line.len() + 1,
+        }
+    }
+
+    /// The position that the crate reports of a place at which it refuses a text.
     ///
     /// Document 01 has one exception: a comment that the text's end cuts off counts as a line. So
     /// does, in a lenient log, any line that is passed over. The place is then the first of a line
     /// that has no bytes.
-    pub fn of(place: usize, text: &[u8], kind: Kind) -> Position {
-        let before = &text[..place];
-        let start = before.iter().rposition(|&byte| byte == b'\n');
-        let (above, line) = before.split_at(start.map_or(0, |lf| lf + 1));
-        let lines = above.iter().filter(|&&byte| byte == b'\n').count();
+    pub fn reported(place: usize, text: &[u8], kind: Kind) -> Position {
+        let position = Position::of(place, text);
+        let (above, line) = split(&text[..place]);
         if place == text.len() && kind.passes_over(line, above) {
             return Position {
-                line: lines + 2,
+                line: position.line + 1,
                 column: 1,
             };
         }
-        Position {
-            line: lines + 1,
-            column: line.len() + 1,
-        }
+        position
     }
+}
+
+/// The lines up to the last LF, and what stands after it.
+fn split(before: &[u8]) -> (&[u8], &[u8]) {
+    let last = before.iter().rposition(|&byte| byte == b'\n');
+    before.split_at(last.map_or(0, |lf| lf + 1))
 }
 
 impl Kind {
@@ -67,9 +77,9 @@ fn has_solution(lines: &[u8]) -> bool {
 mod tests {
     use super::*;
 
-    /// The position of a text's end.
+    /// The position that is reported of a text's end.
     fn end(text: &str, kind: Kind) -> (usize, usize) {
-        let position = Position::of(text.len(), text.as_bytes(), kind);
+        let position = Position::reported(text.len(), text.as_bytes(), kind);
         (position.line, position.column)
     }
 
@@ -84,8 +94,10 @@ mod tests {
             (9, (3, 4)),
         ];
         for (place, (line, column)) in positions {
-            let found = Position::of(place, text, Kind::Clauses);
-            assert_eq!(found, Position { line, column }, "{place}");
+            let position = Position { line, column };
+            assert_eq!(Position::of(place, text), position, "{place}");
+            let reported = Position::reported(place, text, Kind::Clauses);
+            assert_eq!(reported, position, "{place}");
         }
     }
 

@@ -18,6 +18,10 @@ pub struct Refusal {
     elsewhere: Option<Position>,
 }
 
+/// The number for an unknown format or mode. No text is at fault, so that its line and column are 0.
+const UNKNOWN: u8 = 26;
+const NOWHERE: Position = Position { line: 0, column: 0 };
+
 /// How the crate's messages begin, and the number that document 01's table gives for it. An
 /// expectation is given whole, up to what was found, so that no text can be mistaken for it.
 const BEGINNINGS: [(&str, u8); 33] = [
@@ -73,7 +77,7 @@ impl Refusal {
             line: error.line,
             column: error.column,
         };
-        let agree = reported == Position::of(error.place, text, kind);
+        let agree = reported == Position::reported(error.place, text, kind);
         let elsewhere = (!agree).then_some(reported);
 
         // The literal without room stood in the text before whatever the crate stopped at.
@@ -116,23 +120,27 @@ impl Refusal {
         })
     }
 
-    /// Refusal 26, for an unknown format or mode. No text is at fault.
+    /// Refusal 26, for an unknown format or mode.
     pub fn unknown() -> Refusal {
         Refusal {
-            number: 26,
+            number: UNKNOWN,
             place: 0,
             k: 0,
             elsewhere: None,
         }
     }
 
-    /// Writes the transcript's line. The word it stopped at is that of the text; where none is at
+    /// Writes the transcript's line. Line and column, and the word it stopped at, are those of the text; where none is at
     /// fault the text to give is empty. Where the crate stopped elsewhere a line says so, which no
     /// program answers: the case differs.
     pub fn write(&self, text: &[u8], transcript: &mut Vec<u8>) -> io::Result<()> {
+        let Position { line, column } = match self.number {
+            UNKNOWN => NOWHERE,
+            _ => Position::of(self.place, text),
+        };
         write!(
             transcript,
-            "refused {} {} {}",
+            "refused {} {} {} {line} {column}",
             self.number, self.place, self.k
         )?;
         let word = word_at(text, self.place);
@@ -197,8 +205,8 @@ mod tests {
 
     #[test]
     fn a_wrong_line_or_column_is_told() {
-        assert_eq!(written(2, 2, 8), "refused 7 3 0 78\n");
-        assert_eq!(written(1, 2, 8), "refused 7 3 0 78\nelsewhere 1 2\n");
-        assert_eq!(written(2, 1, 8), "refused 7 3 0 78\nelsewhere 2 1\n");
+        assert_eq!(written(2, 2, 8), "refused 7 3 0 2 2 78\n");
+        assert_eq!(written(1, 2, 8), "refused 7 3 0 2 2 78\nelsewhere 1 2\n");
+        assert_eq!(written(2, 1, 8), "refused 7 3 0 2 2 78\nelsewhere 2 1\n");
     }
 }

@@ -69,7 +69,7 @@ pub fn one_call(
     };
     match answer {
         Answer::Line(line) if line.len() > length.min(LONGEST_OUTPUT) as usize => {
-            writeln!(transcript, "refused 28 0 0")?
+            writeln!(transcript, "refused 28 0 0 0 0")?
         }
         Answer::Line(line) => {
             write!(transcript, "written {} ", line.len())?;
@@ -78,7 +78,7 @@ pub fn one_call(
             }
             writeln!(transcript)?;
         }
-        Answer::Refused(number, place) => writeln!(transcript, "refused {number} {place} 0")?,
+        Answer::Refused(number, place) => writeln!(transcript, "refused {number} {place} 0 0 0")?,
     }
     Ok(true)
 }
