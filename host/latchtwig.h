@@ -5,7 +5,7 @@
  * A text is a pointer to its first byte and a count of bytes. Any bytes will do, zeros among them; nothing need end the text. With length 0 the pointer is not
  * looked at and may be null. Otherwise `length` bytes from it on must be readable, and must not change during a call. At most PTRDIFF_MAX bytes are allowed.
  *
- * Both calls judge the whole text anew and agree with each other. They only read, keep nothing, and always return, in time that grows with the text alone; they may
+ * Each call judges the whole text anew, and all agree with each other. They only read the text, keep nothing, and always return, in time that grows with the text alone; they may
  * be called from many threads at once. They use about 5 KB of stack and no heap. A clause, or a whole log, has room for 1,024 literals.
  */
 #ifndef LATCHTWIG_H
@@ -64,6 +64,18 @@ uint32_t latchtwig_refusal(uint32_t format, uint32_t mode, const uint8_t *text, 
 /* The place of that refusal: the offset of the byte at fault, or of the first byte where something else was expected, which may be the text's length. The text's length if it
  * is read to its end. 0 with refusal 26. */
 uint64_t latchtwig_place(uint32_t format, uint32_t mode, const uint8_t *text, size_t length);
+
+/* What a text comes to. */
+struct latchtwig_answer {
+    uint64_t number; /* as latchtwig_refusal answers it */
+    uint64_t place;  /* as latchtwig_place answers it */
+    uint64_t line;   /* of the place, from 1: one more than the line ends before it, LF bytes and in the last two modes each CR without LF too */
+    uint64_t column; /* of the place, from 1: one more than the bytes between the last of these, or the text's start, and the place */
+};
+
+/* All of this by one reading. The number is answered, and what `answer` points to is filled; it must be writable, and may not overlap the text. Line and column are 0 if the text is read to its
+ * end, and with refusal 26. */
+uint32_t latchtwig_check(uint32_t format, uint32_t mode, const uint8_t *text, size_t length, struct latchtwig_answer *answer);
 
 #ifdef __cplusplus
 }

@@ -15,12 +15,11 @@ int main(void) {
         fputs("too long\n", stderr);
         return 2;
     }
-    uint32_t number = latchtwig_refusal(LATCHTWIG_PLAIN, LATCHTWIG_STRICT, text, length);
-    if (number == 0) {
+    struct latchtwig_answer answer;
+    if (latchtwig_check(LATCHTWIG_PLAIN, LATCHTWIG_STRICT, text, length, &answer) == 0) {
         puts("accepted");
         return 0;
     }
-    uint64_t place = latchtwig_place(LATCHTWIG_PLAIN, LATCHTWIG_STRICT, text, length);
-    printf("refused: %" PRIu32 " at byte %" PRIu64 "\n", number, place);
+    printf("refused: %" PRIu64 " at line %" PRIu64 ", column %" PRIu64 "\n", answer.number, answer.line, answer.column);
     return 1;
 }

@@ -29,10 +29,13 @@ static void one(uint32_t format, uint32_t mode, size_t length) {
     if (fread(last, 1, length, stdin) < length) stop("a text is cut off");
     uint32_t number = latchtwig_refusal(format, mode, last, length);
     uint64_t place = latchtwig_place(format, mode, last, length);
+    struct latchtwig_answer answer = {7, 7, 7, 7}, again = {8, 8, 8, 8};
+    if (latchtwig_check(format, mode, last, length, &answer) != number) stop("latchtwig_check answers another number");
     memmove(first, last, length);
     if (latchtwig_refusal(format, mode, first, length) != number || latchtwig_place(format, mode, first, length) != place) stop("the same text came to something else");
+    if (latchtwig_check(format, mode, first, length, &again) != number || memcmp(&answer, &again, sizeof answer)) stop("the same text was checked otherwise");
     munmap(all, room + 2 * page);
-    printf("%" PRIu32 " %" PRIu64 "\n", number, place);
+    printf("%" PRIu32 " %" PRIu64 " %" PRIu64 " %" PRIu64 " %" PRIu64 " %" PRIu64 "\n", number, place, answer.number, answer.place, answer.line, answer.column);
 }
 
 int main(void) {

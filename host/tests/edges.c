@@ -10,14 +10,23 @@
 
 static int wrong, tried;
 
-static void expect(const char *what, uint32_t format, uint32_t mode, const uint8_t *text, size_t length, uint32_t number, uint64_t place) {
+static void expect_at(const char *what, uint32_t format, uint32_t mode, const uint8_t *text, size_t length, uint32_t number, uint64_t place, uint64_t line, uint64_t column) {
     uint32_t n = latchtwig_refusal(format, mode, text, length);
     uint64_t p = latchtwig_place(format, mode, text, length);
+    struct latchtwig_answer a;
+    uint32_t c = latchtwig_check(format, mode, text, length, &a);
     tried++;
-    if (n != number || p != place) {
-        printf("%s, format %" PRIu32 ", mode %" PRIu32 ": %" PRIu32 " at %" PRIu64 ", not %" PRIu32 " at %" PRIu64 "\n", what, format, mode, n, p, number, place);
+    if (n != number || p != place || c != number || a.number != number || a.place != place || a.line != line || a.column != column) {
+        printf("%s, format %" PRIu32 ", mode %" PRIu32 ": %" PRIu32 " at %" PRIu64 ", and %" PRIu64 " at %" PRIu64 ", line %" PRIu64 ", column %" PRIu64 "; not %" PRIu32 " at %" PRIu64 ", line %" PRIu64 ", column %" PRIu64 "\n",
+               what, format, mode, n, p, a.number, a.place, a.line, a.column, number, place, line, column);
         wrong++;
     }
+}
+
+/* The same of a text that is read to its end, of one refused on its first line, and of one whose numbers name nothing. */
+static void expect(const char *what, uint32_t format, uint32_t mode, const uint8_t *text, size_t length, uint32_t number, uint64_t place) {
+    int here = number != 0 && number != 26;
+    expect_at(what, format, mode, text, length, number, place, here ? 1 : 0, here ? place + 1 : 0);
 }
 
 /* A line again and again, as often as it fits the length. */
@@ -55,7 +64,7 @@ int main(void) {
 
         length = lines(text, MEGABYTE, "1 -2 3 0\n");
         text[length] = 'x';
-        expect("a bad last byte", LATCHTWIG_PLAIN, mode, text, length + 1, 9, length);
+        expect_at("a bad last byte", LATCHTWIG_PLAIN, mode, text, length + 1, 9, length, length / 9 + 1, 1);
         memset(text, '9', MEGABYTE);
         expect("a megabyte of digits", LATCHTWIG_PLAIN, mode, text, MEGABYTE, 15, 0);
         memset(text, 0, MEGABYTE);

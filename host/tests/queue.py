@@ -52,7 +52,7 @@ def formats(folder):
         name = f"{format}-{mode}"
         write(f"{folder}/{name}", text)
         status, said, _ = run(format, mode, folder)
-        wanted = f"accepted {name}\n" if number is None else f"refused {name}: refusal {number} at byte "
+        wanted = f"accepted {name}\n" if number is None else f"refused {name}: refusal {number} at line "
         expect(status == 0 and said.startswith(wanted), f"{format} {mode}: {status} {said}")
 
 
@@ -80,7 +80,7 @@ def names(folder):
     left = sorted(os.listdir(folder))
     expect(left == [".hidden", "accepted", "folder", "link", "link-to-folder", "pipe", "refused", "socket", "x.reason"], f"{left}")
     with open(f"{folder}/refused/b.reason") as file:
-        expect(file.read() == "number 5\nplace 4\nreason a line end is expected\n", "the reason")
+        expect(file.read() == "number 5\nplace 4\nline 1\ncolumn 5\nreason a line end is expected\n", "the reason")
     expect(sorted(os.listdir(os.fsencode(folder) + b"/refused")) == [b"b", b"b.reason", b"\xff", b"\xff.reason"], "refused")
 
 
@@ -112,7 +112,7 @@ def header(folder):
         ("plain", "strict", b"p cnf 000 1\n1 0", zero),
         ("plain", "strict", b"p cnf 0 0", zero),
         ("plain", "lenient", b"p cnf 01 10", None),
-        ("plain", "strict", b"p cnf 1 1\n", "refusal 9 at byte 10: a clause, a comment, a line end or a permitted end of the text is expected"),
+        ("plain", "strict", b"p cnf 1 1\n", "refusal 9 at line 2, column 1 (byte 10): a clause, a comment, a line end or a permitted end of the text is expected"),
         ("plain", "strict", b"c one\rp cnf 1 1\r1 0\r", none),
         ("plain", "strict-cr", b"c one\rp cnf 1 1\r1 0\r", None),
         ("plain", "lenient-cr", b"c one\rp cnf 1 0\r1 0\r", zero),

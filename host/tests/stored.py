@@ -1,7 +1,7 @@
 #!/usr/bin/env python3
 """Runs every stored case of crates/reader_cases through a caller of the host calls, and holds what it prints to the stored answer.
 
-stored.py CRATES COMMAND..: COMMAND.. takes the frames of crates/host_cases and prints number and place of each. Where the stored answer is 16, the case's own room for
+stored.py CRATES COMMAND..: COMMAND.. takes the frames of crates/host_cases and prints number and place of each, and then number, place, line and column. Where the stored answer is 16, the case's own room for
 literals was too small and the calls have more: they must get further, and not answer 16.
 """
 import pathlib
@@ -26,16 +26,17 @@ def main():
 
     equal = further = 0
     for n, (line, words, (*_, text)) in enumerate(zip(found, said, cases)):
-        number, place = map(int, line.split())
-        wanted = (int(words[1]), int(words[2])) if words[0] == b"refused" else (0, len(text))
+        number, place, *checked = map(int, line.split())
+        told, at, _, *spot = map(int, words[1:6]) if words[0] == b"refused" else (0, len(text), 0, 0, 0)
+        wanted = told, at, told, at, *spot
         if wanted[0] == BUFFER_FULL:
-            right = number != BUFFER_FULL and place > wanted[1]
+            right = number != BUFFER_FULL and place > at and checked[:2] == [number, place]
             further += 1
         else:
-            right = (number, place) == wanted
+            right = (number, place, *checked) == wanted
             equal += 1
         if not right:
-            sys.exit(f"stored: case {n}: {line}, not {wanted[0]} {wanted[1]}")
+            sys.exit(f"stored: case {n}: {line}, not {' '.join(map(str, wanted))}")
     print(f"stored: {equal} answers equal the stored ones, {further} get further where the stored room was too small")
 
 

@@ -214,7 +214,9 @@ fn header_counts(format: Format, mode: Mode, text: &[u8]) -> Result<(), &'static
         Format::Log | Format::Weighted2022 => return Ok(()),
     };
     let place = match check(another, mode, text) {
-        Err(Refusal { number: 1, place }) => place,
+        Err(Refusal {
+            number: 1, place, ..
+        }) => place,
         _ => return Err("a header is expected"),
     };
     let words = text[place..].split(|byte| b" \t\r\n".contains(byte));
@@ -310,9 +312,11 @@ fn write_reason(place: &Path, name: &OsStr, why: &Why) -> io::Result<()> {
     match why {
         Why::Text(refusal) => writeln!(
             file,
-            "number {}\nplace {}\nreason {}",
+            "number {}\nplace {}\nline {}\ncolumn {}\nreason {}",
             refusal.number,
             refusal.place,
+            refusal.line,
+            refusal.column,
             refusal.words()
         )?,
         Why::Header(words) => writeln!(file, "reason {words}")?,

@@ -1,7 +1,7 @@
 //! Checks whole texts in the DIMACS formats of SAT formulas, and the logs of SAT solvers, by a reader that is proved to follow its written definition.
 //!
-//! [`check`] takes a [`Format`], a [`Mode`] and the bytes of a text. A text is read to its end, or it is refused with a number that says why and a place that
-//! says where:
+//! [`check`] takes a [`Format`], a [`Mode`] and the bytes of a text. A text is read to its end, or it is refused with a number that says why, and a place, a line and a
+//! column that say where:
 //!
 //! ```
 //! use latchtwig::{check, Format, Mode};
@@ -11,11 +11,11 @@
 //! // Two clauses on one line: a line end was expected after the first 0.
 //! let refusal = check(Format::Plain, Mode::Strict, b"1 0 2 0\n").unwrap_err();
 //! assert_eq!((refusal.number, refusal.place), (5, 4));
-//! assert_eq!(refusal.to_string(), "refusal 5 at byte 4: a line end is expected");
+//! assert_eq!(refusal.to_string(), "refusal 5 at line 1, column 5 (byte 4): a line end is expected");
 //! ```
 //!
 //! The readers are written in Rattle and linked as a static library for x86-64 Linux. What is proved of them: for any bytes and any two numbers they return, read
-//! only the text, and answer what the definition says, with a place within the text. This crate adds the two foreign calls, in one place, and the words.
+//! only the text, and answer what the definition says, with a place within the text. This crate adds the foreign call, in one place, and the words.
 
 #![deny(missing_docs)]
 #![deny(unsafe_op_in_unsafe_fn)]
@@ -60,6 +60,11 @@ pub struct Refusal {
     pub number: u32,
     /// The offset of the word at fault, or of the first byte where something else was expected. That may be the text's length.
     pub place: usize,
+    /// The line of the place, from 1: one more than the line ends before it, which are LF bytes, and in [`Mode::StrictCr`] and [`Mode::LenientCr`] each CR without LF too.
+    /// 0 where a number names no format or no mode.
+    pub line: usize,
+    /// The column of the place, from 1: one more than the bytes between the last of these, or the text's start, and the place. 0 where the line is.
+    pub column: usize,
 }
 
 impl Refusal {
@@ -103,12 +108,15 @@ impl Refusal {
 
 impl fmt::Display for Refusal {
     fn fmt(&self, f: &mut fmt::Formatter<'_>) -> fmt::Result {
+        let (number, words) = (self.number, self.words());
+        if self.line == 0 {
+            // No text is at fault.
+            return write!(f, "refusal {number}: {words}");
+        }
+        let (place, line, column) = (self.place, self.line, self.column);
         write!(
             f,
-            "refusal {} at byte {}: {}",
-            self.number,
-            self.place,
-            self.words()
+            "refusal {number} at line {line}, column {column} (byte {place}): {words}"
         )
     }
 }
@@ -117,7 +125,7 @@ impl Error for Refusal {}
 
 /// Reads the whole text. `Ok` means that it was read to its end.
 ///
-/// A clause, or a whole log, has room for 1,024 literals; one more is refusal 16. A refused text is read a second time, for its place.
+/// A clause, or a whole log, has room for 1,024 literals; one more is refusal 16.
 ///
 /// ```
 /// use latchtwig::{check, Format, Mode};
@@ -125,6 +133,7 @@ impl Error for Refusal {}
 /// let order = b"p cnf 2 1\n3 0\n";
 /// let refusal = check(Format::Plain, Mode::Strict, order).unwrap_err();
 /// assert_eq!((refusal.number, refusal.place), (15, 10));
+/// assert_eq!((refusal.line, refusal.column), (2, 1));
 /// assert_eq!(&order[refusal.place..], b"3 0\n");
 ///
 /// // The lenient mode applies no count of the header.
@@ -140,30 +149,43 @@ pub fn check(format: Format, mode: Mode, text: &[u8]) -> Result<(), Refusal> {
 /// assert_eq!(latchtwig::check_by_number(256, 0, b"1 0\n").unwrap_err().number, 26);
 /// ```
 pub fn check_by_number(format: u32, mode: u32, text: &[u8]) -> Result<(), Refusal> {
-    match calls::refusal(format, mode, text) {
+    let mut answer = calls::Answer::default();
+    match calls::check(format, mode, text, &mut answer) {
         0 => Ok(()),
+        // A place is at most the text's length, by `outcome-within` in crates/latchtwig/proofs/Within.antt; line and column count bytes before it.
         number => Err(Refusal {
             number,
-            // A place is at most the text's length, by `outcome-within` in crates/latchtwig/proofs/Within.antt.
-            place: calls::place(format, mode, text) as usize,
+            place: answer.place as usize,
+            line: answer.line as usize,
+            column: answer.column as usize,
         }),
     }
 }
 
-/// The foreign calls. `host/latchtwig.h` declares the same two.
+/// The foreign call. `host/latchtwig.h` declares it, and two that answer a part of it.
 mod calls {
+    /// What a text comes to, as `struct latchtwig_answer` has it.
+    #[derive(Default)]
+    #[repr(C)]
+    pub struct Answer {
+        pub number: u64,
+        pub place: u64,
+        pub line: u64,
+        pub column: u64,
+    }
+
     extern "C" {
-        fn latchtwig_refusal(format: u32, mode: u32, text: *const u8, length: usize) -> u32;
-        fn latchtwig_place(format: u32, mode: u32, text: *const u8, length: usize) -> u64;
+        fn latchtwig_check(
+            format: u32,
+            mode: u32,
+            text: *const u8,
+            length: usize,
+            answer: *mut Answer,
+        ) -> u32;
     }
 
-    pub fn refusal(format: u32, mode: u32, text: &[u8]) -> u32 {
-        // SAFETY: the call reads only the bytes of the slice, which is borrowed until it returns, and takes any numbers.
-        unsafe { latchtwig_refusal(format, mode, text.as_ptr(), text.len()) }
-    }
-
-    pub fn place(format: u32, mode: u32, text: &[u8]) -> u64 {
-        // SAFETY: as above.
-        unsafe { latchtwig_place(format, mode, text.as_ptr(), text.len()) }
+    pub fn check(format: u32, mode: u32, text: &[u8], answer: &mut Answer) -> u32 {
+        // SAFETY: the call reads only the bytes of the slice and writes only the four words of the answer, both of which are borrowed until it returns, and takes any numbers.
+        unsafe { latchtwig_check(format, mode, text.as_ptr(), text.len(), answer) }
     }
 }

@@ -15,16 +15,26 @@ const MODES: [Mode; 4] = [Mode::Strict, Mode::Lenient, Mode::StrictCr, Mode::Len
 const MEGABYTE: usize = 1 << 20;
 const BUFFER_FULL: u32 = 16;
 
-/// Number and place as the two calls answer them: 0 and the length for a text read to its end.
-fn outcome(format: u32, mode: u32, text: &[u8]) -> (u32, usize) {
+/// Number, place, line and column as the call leaves them: 0, the length, 0 and 0 for a text read to its end.
+fn outcome(format: u32, mode: u32, text: &[u8]) -> (u32, usize, usize, usize) {
     match check_by_number(format, mode, text) {
-        Ok(()) => (0, text.len()),
-        Err(refusal) => (refusal.number, refusal.place),
+        Ok(()) => (0, text.len(), 0, 0),
+        Err(r) => (r.number, r.place, r.line, r.column),
     }
 }
 
-fn refused(number: u32, place: usize) -> Result<(), Refusal> {
-    Err(Refusal { number, place })
+fn refused(number: u32, place: usize, line: usize, column: usize) -> Result<(), Refusal> {
+    Err(Refusal {
+        number,
+        place,
+        line,
+        column,
+    })
+}
+
+/// Refused at the text's start.
+fn at_once(number: u32) -> Result<(), Refusal> {
+    refused(number, 0, 1, 1)
 }
 
 fn stored(path: &str) -> Vec<u8> {
@@ -66,11 +76,12 @@ fn stored_cases() {
         let text = take(&mut given, length);
         let found = outcome(format, mode, text);
         if line[0] != "refused" {
-            assert_eq!(found, (0, length), "{format} {mode} {text:?}");
+            assert_eq!(found, (0, length, 0, 0), "{format} {mode} {text:?}");
             counts[0] += 1;
             continue;
         }
         let (number, place) = (line[1].parse().unwrap(), line[2].parse().unwrap());
+        let (row, column) = (line[4].parse().unwrap(), line[5].parse().unwrap());
         if number == BUFFER_FULL {
             assert!(
                 found.0 != BUFFER_FULL && found.1 > place,
@@ -78,7 +89,11 @@ fn stored_cases() {
             );
             counts[1] += 1;
         } else {
-            assert_eq!(found, (number, place), "{format} {mode} {text:?}");
+            assert_eq!(
+                found,
+                (number, place, row, column),
+                "{format} {mode} {text:?}"
+            );
             counts[0] += 1;
         }
     }
@@ -103,9 +118,9 @@ fn host_cases() {
             take_u32(&mut given),
         );
         let text = take(&mut given, length as usize);
-        let (number, place) = outcome(format, mode, text);
+        let (number, place, row, column) = outcome(format, mode, text);
         assert_eq!(
-            format!("{number} {place}"),
+            format!("{number} {place} {number} {place} {row} {column}"),
             line,
             "{format} {mode} {text:?}"
         );
@@ -129,12 +144,12 @@ fn only_the_slice_is_read() {
     assert_eq!(check(Format::Plain, Mode::Strict, &text[..4]), Ok(()));
     assert_eq!(
         check(Format::Plain, Mode::Strict, &text[..9]),
-        refused(5, 8)
+        refused(5, 8, 2, 5)
     );
     assert_eq!(check(Format::Plain, Mode::Strict, &text[..3]), Ok(()));
     assert_eq!(
         check(Format::Plain, Mode::Strict, &text[..1]),
-        refused(6, 1)
+        refused(6, 1, 1, 2)
     );
 }
 
@@ -162,11 +177,15 @@ fn megabytes() {
             assert_eq!(check(format, mode, &text), Ok(()), "{line:?}");
         }
         let length = text.len();
+        let (row, column) = match line {
+            " " => (1, length + 1),
+            _ => (text.iter().filter(|&&byte| byte == b'\n').count() + 1, 1),
+        };
         text.extend_from_slice(b"x\n");
         let number = if format == Format::Log { 18 } else { 9 };
         assert_eq!(
             check(format, Mode::Strict, &text),
-            refused(number, length),
+            refused(number, length, row, column),
             "{line:?}"
         );
     }
@@ -175,14 +194,14 @@ fn megabytes() {
 #[test]
 fn one_word_of_a_megabyte() {
     let mut text = vec![b'9'; MEGABYTE];
-    assert_eq!(check(Format::Plain, Mode::Strict, &text), refused(15, 0));
-    assert_eq!(check(Format::Weighted, Mode::Strict, &text), refused(13, 0));
+    assert_eq!(check(Format::Plain, Mode::Strict, &text), at_once(15));
+    assert_eq!(check(Format::Weighted, Mode::Strict, &text), at_once(13));
     text.push(b'x');
-    assert_eq!(check(Format::Plain, Mode::Strict, &text), refused(9, 0));
+    assert_eq!(check(Format::Plain, Mode::Strict, &text), at_once(9));
     text.iter_mut().for_each(|byte| *byte = b'0');
     assert_eq!(check(Format::Plain, Mode::Strict, &text), Ok(()));
     text.iter_mut().for_each(|byte| *byte = 0);
-    assert_eq!(check(Format::Plain, Mode::Strict, &text), refused(9, 0));
+    assert_eq!(check(Format::Plain, Mode::Strict, &text), at_once(9));
 }
 
 #[test]
@@ -190,11 +209,11 @@ fn empty_clauses() {
     let text = lines("0\n", 1 << 16);
     assert_eq!(check(Format::Plain, Mode::Strict, &text), Ok(()));
     assert_eq!(check(Format::Weighted, Mode::Strict, &text), Ok(()));
-    assert_eq!(check(Format::Grouped, Mode::Strict, &text), refused(9, 0));
-    assert_eq!(check(Format::Log, Mode::Strict, &text), refused(18, 0));
+    assert_eq!(check(Format::Grouped, Mode::Strict, &text), at_once(9));
+    assert_eq!(check(Format::Log, Mode::Strict, &text), at_once(18));
     assert_eq!(check(Format::Log, Mode::Lenient, &text), Ok(()));
     let weight_zero = check(Format::Weighted2022, Mode::Lenient, &text);
-    assert_eq!(weight_zero, refused(32, 0));
+    assert_eq!(weight_zero, at_once(32));
 }
 
 #[test]
@@ -204,7 +223,7 @@ fn many_threads() {
         for _ in 0..8 {
             scope.spawn(|| {
                 assert_eq!(check(Format::Plain, Mode::Strict, &text), Ok(()));
-                assert_eq!(check(Format::Grouped, Mode::Strict, &text), refused(9, 0));
+                assert_eq!(check(Format::Grouped, Mode::Strict, &text), at_once(9));
             });
         }
     });
@@ -215,13 +234,9 @@ fn words() {
     let numbers: Vec<u32> = (1..20).chain([26]).collect();
     let said: Vec<&str> = numbers
         .iter()
-        .map(|&number| Refusal { number, place: 0 }.words())
+        .map(|&number| at_once(number).unwrap_err().words())
         .collect();
-    let other = Refusal {
-        number: 99,
-        place: 0,
-    }
-    .words();
+    let other = at_once(99).unwrap_err().words();
     for (at, words) in said.iter().enumerate() {
         assert!(
             words.ends_with("expected") || words.contains(" expected"),
@@ -233,6 +248,10 @@ fn words() {
         Box::new(check(Format::Log, Mode::Strict, b"v 1 -2\n").unwrap_err());
     assert_eq!(
         refusal.to_string(),
-        "refusal 19 at byte 7: the 0 that closes the assignment is expected"
+        "refusal 19 at line 2, column 1 (byte 7): the 0 that closes the assignment is expected"
+    );
+    assert_eq!(
+        check_by_number(9, 0, b"").unwrap_err().to_string(),
+        "refusal 26: a known format and a known mode are expected"
     );
 }
