@@ -362,6 +362,17 @@ class OldArea(Tray):
         return super().served(job, job.area[: len(area)])
 
 
+class AreaLines(Tray):
+    """Line and column are counted from the start of the area, and not of the job."""
+
+    def served(self, job, area):
+        try:
+            return super().served(job, area)
+        except Refused as refusal:
+            number, place, k, line, _ = refusal.args
+            raise Refused(number, place, k, *(job.reader.spot(bytes(area), job.start + place) if line else (0, 0)))
+
+
 class WideRoom(Reader):
     """The whole buffer is filled, and not its first 1,024 places."""
 
@@ -432,12 +443,20 @@ class ReturnLenient(Reader):
         self.strict = mode == STRICT
 
 
+class EachReturn(Reader):
+    """Line and column go by each CR and each LF."""
+
+    def spot(self, text, at):
+        starts = [0, *(i + 1 for i in range(at) if text[i] in b"\r\n")]
+        return len(starts), at - starts[-1] + 1
+
+
 def reading(wrong):
     return type(wrong.__name__, (Tray,), {"__doc__": wrong.__doc__, "reader": wrong})
 
 
-SLIPS = [FrontAgain, BehindOne, TicketReused, LastTakesItsPlace, FullFirst, BufferFirst, WholeArea, RefusedStays, OldArea]
-SLIPS += map(reading, [WideRoom, ZeroCount, ZeroCloses, ZeroWeight, NoClauseForHeader, ShortH, ReturnEndsNoLine, ReturnLenient])
+SLIPS = [FrontAgain, BehindOne, TicketReused, LastTakesItsPlace, FullFirst, BufferFirst, WholeArea, RefusedStays, OldArea, AreaLines]
+SLIPS += map(reading, [WideRoom, ZeroCount, ZeroCloses, ZeroWeight, NoClauseForHeader, ShortH, ReturnEndsNoLine, ReturnLenient, EachReturn])
 
 # ---- random texts and calls
 
