@@ -1,6 +1,6 @@
 -- Line and column of a place: how they go on from byte to byte, what the line counts, that both are at least 1, and that they give the place back. Assumes nothing.
 use Prim.Native.Nat.{ℕ, zero, suc, _+_, _-_, _≤_, _<_}
-use mathlib.Core.Bool.{true, false}
+use mathlib.Core.Bool.{true, false, cond}
 use mathlib.Core.List.{List, [], _∷_, _++_}
 use mathlib.Core.Path.{_≡_, refl, ap, sym, _∙_, subst}
 use native.Mathlib.Numerals.{add-one}
@@ -10,11 +10,26 @@ use lib.ListN.{length, getD, take, length-take}
 use lib.Seq.{take-all, take-suc}
 use Rattle.dimacs.specs.Bytes.{LF}
 use Rattle.dimacs.specs.Lined.{lined}
-use Rattle.dimacs.specs.Spots.{lineAndColumn, byteOn, bytesOn, spotOf, countLF, throughLF, lineStart}
+use Rattle.dimacs.specs.Spots.{lineAndColumn, byteOn, bytesOn, spotOf}
 use Rattle.dimacs.specs.declared.Ends.{Ends}
 use Rattle.dimacs.specs.declared.Spot.{Spot}
 use Rattle.dimacs.proofs.Tests.{tested, chosen}
 use Rattle.dimacs.proofs.Lined.{lined-length, ended-lined, inside-lined}
+
+-- How many LF there are.
+unfoldable pub countLF : List ℕ → ℕ
+countLF [] = 0
+countLF (b ∷ r) = cond (eqb b LF) 1 0 + countLF r
+
+-- How many bytes there are up to and with so many LF.
+unfoldable pub throughLF : List ℕ → ℕ → ℕ
+throughLF [] n = 0
+throughLF (b ∷ r) zero = 0
+throughLF (b ∷ r) (suc n) = suc (throughLF r (cond (eqb b LF) n (suc n)))
+
+-- Where a line begins: past the LF that ends the line before it.
+abbrev pub lineStart : List ℕ → ℕ → ℕ
+lineStart s line = throughLF s (line - 1)
 
 bytes-on-on : (s t : List ℕ) (p : Spot) → bytesOn (s ++ t) p ≡ bytesOn t (bytesOn s p)
 unfolding bytesOn

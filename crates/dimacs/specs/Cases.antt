@@ -73,18 +73,33 @@ pub record Case : Type 0 where
   pub quoted : String
   pub expected : List Line
 
-abbrev linesBy : Kind → Mode → ℕ → List ℕ → List Line
-linesBy (Formula f) m room s = textLines (text f m room s)
-linesBy Log m room s = logLines (log s m room)
+-- A case's text, or log, as it is read.
+pub data Reading : Type 0 where
+  OfText : Text → Reading
+  OfLog : LogAnswer → Reading
+
+abbrev readingBy : Kind → Mode → ℕ → List ℕ → Reading
+readingBy (Formula f) m room s = OfText (text f m room s)
+readingBy Log m room s = OfLog (log s m room)
+
+pub readingOf : Case → Reading
+unfolding loop said numbered lined run past begins decimal lineEnd nextLine endOfLine fixed wordEnds word strictComment newline linePast commentOrNewline lines linebreaks unsigned braced minus uintAt bracedUintAt intAt headerEnd thirdThere thirdCount clauseCount variableCount afterP openingOf nextInt row nextRow literalsFrom literals absent startIn2022 startAt closing clauseAt nextClause answerAt turn answersFrom text valueLine solutionLine logLine logFrom log bytesOn
+readingOf c = readingBy (c .kind) (c .mode) (c .room) (bytes (c .quoted))
+
+abbrev linesIn : Reading → List Line
+linesIn (OfText t) = textLines t
+linesIn (OfLog a) = logLines a
 
 -- What the definition says of a case's text.
-pub linesOf : Case → List Line
-unfolding loop said numbered lined run past begins decimal lineEnd nextLine endOfLine fixed wordEnds word strictComment newline linePast commentOrNewline lines linebreaks unsigned braced minus uintAt bracedUintAt intAt headerEnd thirdThere thirdCount clauseCount variableCount afterP openingOf nextInt row nextRow literalsFrom literals absent startIn2022 startAt closing clauseAt nextClause answerAt turn answersFrom text valueLine solutionLine logLine logFrom log
-linesOf c = linesBy (c .kind) (c .mode) (c .room) (bytes (c .quoted))
+abbrev linesOf : Case → List Line
+linesOf c = linesIn (readingOf c)
 
--- The definition says of every text in the table what is expected.
+-- What is told of every text in the table is what is expected.
+abbrev HoldBy : (Case → List Line) → List Case → Type 0
+HoldBy told cases = map told cases ≡ map (λ c. c .expected) cases
+
 abbrev pub Hold : List Case → Type 0
-Hold cases = map linesOf cases ≡ map (λ c. c .expected) cases
+Hold = HoldBy linesOf
 
 abbrev case : Kind → Mode → String → List Line → Case
 case k m q e = record { kind = k; mode = m; room = 1024; quoted = q; expected = e }
@@ -131,7 +146,7 @@ marked =
     ∷ []
 
 pub marked-hold : Hold marked
-unfolding linesOf
+unfolding readingOf
 marked-hold = refl
 
 -- The other texts of document 01. `negsuc n` is -(n + 1), so that `negsuc 2` is -3.
@@ -147,7 +162,7 @@ unmarked =
     ∷ []
 
 pub unmarked-hold : Hold unmarked
-unfolding linesOf
+unfolding readingOf
 unmarked-hold = refl
 
 -- The slips that document 01 expects: clauses split at 0 alone; a clause count of 0 taken for "no clauses"; 15 for digits that overflow and end in a letter.
@@ -161,7 +176,7 @@ slips =
     ∷ []
 
 pub slips-hold : Hold slips
-unfolding linesOf
+unfolding readingOf
 slips-hold = refl
 
 -- Where the crate's code settles what document 01 leaves open.
@@ -195,7 +210,7 @@ readings =
     ∷ []
 
 pub readings-hold : Hold readings
-unfolding linesOf
+unfolding readingOf
 readings-hold = refl
 
 -- What a log says, by its solution line or for want of one.
@@ -212,7 +227,7 @@ verdicts =
     ∷ []
 
 pub verdicts-hold : Hold verdicts
-unfolding linesOf
+unfolding readingOf
 verdicts-hold = refl
 
 -- A text in modes 0 to 3, with what is expected in each.
@@ -246,7 +261,7 @@ returns =
     ++ inModes (Formula Plain) "p cnf 1 1\r2 0\r" (Refused 5 9 0 ∷ []) (Refused 5 9 0 ∷ []) (Header 1 1 0 ∷ Refused 15 10 0 ∷ []) (Header 1 1 0 ∷ Clause 0 (pos 2 ∷ []) ∷ End ∷ [])
 
 pub returns-hold : Hold returns
-unfolding linesOf
+unfolding readingOf
 returns-hold = refl
 
 -- Texts of the 2022 form, which all modes read alike, as no CR stands in them.
@@ -277,7 +292,7 @@ in2022 m =
     ∷ []
 
 pub in-2022-hold : (rigor : Rigor) (rule : Ends) → Hold (in2022 (inMode rigor rule))
-unfolding linesOf
+unfolding readingOf
 in-2022-hold rigor LineFeed = refl
 in-2022-hold rigor AlsoReturn = refl
 
@@ -299,14 +314,13 @@ abbrev logSpots : LogAnswer → List Line
 logSpots (accepted v so) = []
 logSpots (refusedLog r so) = spotted r
 
-abbrev spotsBy : Kind → Mode → ℕ → List ℕ → List Line
-spotsBy (Formula f) m room s = let t = text f m room s in openingSpots (t .opened) (flatMap answerSpots (t .answers))
-spotsBy Log m room s = logSpots (log s m room)
+abbrev spotsIn : Reading → List Line
+spotsIn (OfText t) = openingSpots (t .opened) (flatMap answerSpots (t .answers))
+spotsIn (OfLog a) = logSpots a
 
 -- What the definition says of where a case's text is refused.
-pub spotsOf : Case → List Line
-unfolding loop said numbered lined run past begins decimal lineEnd nextLine endOfLine fixed wordEnds word strictComment newline linePast commentOrNewline lines linebreaks unsigned braced minus uintAt bracedUintAt intAt headerEnd thirdThere thirdCount clauseCount variableCount afterP openingOf nextInt row nextRow literalsFrom literals absent startIn2022 startAt closing clauseAt nextClause answerAt turn answersFrom text valueLine solutionLine logLine logFrom log bytesOn flatMap
-spotsOf c = spotsBy (c .kind) (c .mode) (c .room) (bytes (c .quoted))
+abbrev spotsOf : Case → List Line
+spotsOf c = spotsIn (readingOf c)
 
 -- Refusals of a text that all modes give, as no CR stands alone in these: within a line, at its start and at its end, after CR LF, and at the end of a text.
 abbrev pub spots : Mode → List Case
@@ -356,22 +370,22 @@ spotsAfterReturn =
 
 -- The definition says of every text in the table where it is refused.
 abbrev pub SpotsHold : List Case → Type 0
-SpotsHold cases = map spotsOf cases ≡ map (λ c. c .expected) cases
+SpotsHold = HoldBy spotsOf
 
 pub spots-hold : (rigor : Rigor) (rule : Ends) → SpotsHold (spots (inMode rigor rule))
-unfolding spotsOf
+unfolding readingOf flatMap
 spots-hold Strict LineFeed = refl
 spots-hold Strict AlsoReturn = refl
 spots-hold Lenient LineFeed = refl
 spots-hold Lenient AlsoReturn = refl
 
 pub strict-spots-hold : (rule : Ends) → SpotsHold (strictSpots (inMode Strict rule))
-unfolding spotsOf
+unfolding readingOf flatMap
 strict-spots-hold LineFeed = refl
 strict-spots-hold AlsoReturn = refl
 
 pub spots-after-return-hold : SpotsHold spotsAfterReturn
-unfolding spotsOf
+unfolding readingOf flatMap
 spots-after-return-hold = refl
 
 -- The word a reader stopped at: a text, a place and the word there.

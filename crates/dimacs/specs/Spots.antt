@@ -1,5 +1,5 @@
--- The line and the column of a place in a text as it is read, and where a line begins.
-use Prim.Native.Nat.{ℕ, zero, suc, _+_, _-_}
+-- The line and the column of a place in a text as it is read.
+use Prim.Native.Nat.{ℕ, _+_}
 use mathlib.Core.Bool.{cond}
 use mathlib.Core.List.{List, [], _∷_}
 use lib.Dec.{eqb}
@@ -27,18 +27,3 @@ bytesOn (b ∷ r) p = bytesOn r (byteOn b p)
 -- Where a place stands: as many bytes on from line 1 and column 1 as there are before it.
 abbrev pub spotOf : List ℕ → ℕ → Spot
 spotOf s at = bytesOn (take at s) (lineAndColumn 1 1)
-
--- How many LF there are.
-unfoldable pub countLF : List ℕ → ℕ
-countLF [] = 0
-countLF (b ∷ r) = cond (eqb b LF) 1 0 + countLF r
-
--- How many bytes there are up to and with so many LF.
-unfoldable pub throughLF : List ℕ → ℕ → ℕ
-throughLF [] n = 0
-throughLF (b ∷ r) zero = 0
-throughLF (b ∷ r) (suc n) = suc (throughLF r (cond (eqb b LF) n (suc n)))
-
--- Where a line begins: past the LF that ends the line before it.
-abbrev pub lineStart : List ℕ → ℕ → ℕ
-lineStart s line = throughLF s (line - 1)

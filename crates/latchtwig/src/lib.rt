@@ -58,6 +58,7 @@ fn check(text: &[u8], format: u32, mode: u32) -> Outcome
     read(text, narrowed(format), narrowed(mode))
 }
 
+// The number of the refusal, or 0 for a text read to its end.
 fn number_told(outcome: Outcome) -> u32
     ensures { λ r. ⌜ r ≡ numberTold outcome ⌝ }
 {
