@@ -8,11 +8,11 @@ use lib.Dec.{eqb}
 use lib.ListN.{length}
 use lib.IntN.{ℤ}
 use Rattle.dimacs.specs.Loop.{Step, again, answer}
-use Rattle.dimacs.specs.Names.{Reason, numberOf, numbered, refusal, largest}
+use Rattle.dimacs.specs.Names.{Reason, numberOf, numbered, refusal, largest, hard}
 use Rattle.dimacs.specs.Bytes.{bytes}
 use Rattle.dimacs.specs.Tokens.{unmoved, atEnd, word, linebreaks, uintAt, bracedUintAt, endOfLine, lineEnds}
 use Rattle.dimacs.specs.Rows.{Row, ends, closes, stops, readBy, Reading, reads, row}
-use Rattle.dimacs.specs.Clauses.{Literals, nothing, closed, stopped, onRow, nextRow, literalsFrom, literals, Answer, clause, ended, refused, Answered, says, instead, absent, isZero, startBy, softBy, startIn2022, startAt, closing, finish, clauseBy, clauseAt}
+use Rattle.dimacs.specs.Clauses.{Literals, nothing, closed, stopped, onRow, nextRow, literalsFrom, literals, Answer, clause, ended, refused, Answered, says, instead, absent, isZero, literalsAfter, startBy, startIn2022, startAt, closing, finish, clauseBy, clauseAt}
 use Rattle.dimacs.specs.declared.Format.{Format}
 use Rattle.dimacs.specs.declared.Limits.{Limits}
 use Rattle.dimacs.specs.declared.Format.the-variants.{Plain, Weighted, Grouped, Weighted2022}
@@ -28,7 +28,7 @@ use Rattle.dimacs.specs.declared.Uint.the-variants as uint
 use Rattle.dimacs.specs.declared.EndOfLine.{EndOfLine}
 use Rattle.dimacs.specs.declared.EndOfLine.the-variants as end
 use Rattle.dimacs.proofs.Loops.{Leads, Falls, after, unrolled, kept}
-use Rattle.dimacs.proofs.Tests.{chosen}
+use Rattle.dimacs.proofs.Tests.{tested, chosen}
 use Rattle.dimacs.proofs.Spans.{Spans, then-spans, Moves, moves, moves-then, EndCloses, end-closes, word-spans, linebreaks-spans, UintMoves, uint-moves, braced-uint-moves}
 use Rattle.dimacs.proofs.Rows.{RowSpans, row-spans, Grown, row-grows, left}
 
@@ -68,6 +68,12 @@ module _ (s : List ℕ) (limit room : ℕ) where
   unfolding literalsFrom
   literals-step r = unrolled (nextRow s limit room) nothing (left s) literals-falls (suc (length s)) r (omega arith)
 
+  -- What each row keeps, and each answer then has, the literals' answer has.
+  pub literals-kept : (P : Reading → Type 0) (Q : Literals → Type 0) → ((r : Reading) → P r → Leads P Q (nextRow s limit room r)) → (r : Reading) → P r
+      → Q (literalsFrom s limit room r)
+  unfolding literalsFrom
+  literals-kept P Q keeps r = kept (nextRow s limit room) nothing (left s) literals-falls P Q keeps (suc (length s)) r (omega arith)
+
   literals-keep : (at : ℕ) (r : Reading) → Spans s at (r .at) → Leads (λ x. Spans s at (x .at)) (LiteralsSpan s at) (nextRow s limit room r)
   unfolding nextRow numbered
   literals-keep at r h = go (row s limit room r) (row-spans s limit room r)
@@ -83,10 +89,8 @@ module _ (s : List ℕ) (limit room : ℕ) where
           by-row On (length (r .so)) e so tt k k (λ _. then-spans k (linebreaks-spans s e))
 
   pub literals-span : (at : ℕ) → LiteralsSpan s at (literals s limit room at)
-  unfolding literals literalsFrom
-  literals-span at =
-      kept (nextRow s limit room) nothing (left s) literals-falls (λ x. Spans s at (x .at)) (LiteralsSpan s at) (literals-keep at) (suc (length s))
-      (reads at []) (omega arith) (omega arith)
+  unfolding literals
+  literals-span at = literals-kept (λ x. Spans s at (x .at)) (LiteralsSpan s at) (literals-keep at) (reads at []) (omega arith)
 
   fit-keep : (r : Reading) → length (r .so) ≤ room → Leads (λ x. length (x .so) ≤ room) (LiteralsFit room) (nextRow s limit room r)
   unfolding nextRow
@@ -101,10 +105,8 @@ module _ (s : List ℕ) (limit room : ℕ) where
       go (ends e so) g = let k : length so ≤ room = omega arith in by-row On (length (r .so)) e so tt k k (λ _. k)
 
   pub literals-fit : (at : ℕ) → LiteralsFit room (literals s limit room at)
-  unfolding literals literalsFrom
-  literals-fit at =
-      kept (nextRow s limit room) nothing (left s) literals-falls (λ x. length (x .so) ≤ room) (LiteralsFit room) fit-keep (suc (length s))
-      (reads at []) (omega arith) (omega arith)
+  unfolding literals
+  literals-fit at = literals-kept (λ x. length (x .so) ≤ room) (LiteralsFit room) fit-keep (reads at []) (omega arith)
 
 -- How many clauses may still come.
 abbrev pub toCome : List ℕ → ℕ → ℕ
@@ -158,19 +160,27 @@ module _ (s : List ℕ) where
   start-by-placed big absence at uint.TooBig m = omega arith
   start-by-placed big absence at (uint.Value extra e) m = then-spans (omega arith) (linebreaks-spans s e)
 
-  soft-by-placed : (absence : Absence) (at : ℕ) (u : Uint) → UintMoves s at u → StartPlaced s at (softBy s absence at u)
-  unfolding numbered
-  soft-by-placed absence at u m =
-      chosen (StartPlaced s at) (isZero u) (λ _. omega arith) (λ _. start-by-placed (numberOf Reason.weightTooBig) absence at u m)
+  -- A clause of the 2022 form begins in one of four ways, and only that by its weight hangs on what an absent number means: here on two such meanings side by side.
+  pub starts-in-2022 : (P : Start → Start → Type 0) (x y : Absence) (at : ℕ)
+      → let header = start.Instead (Refused (refusal s Reason.headerNotExpected at)) in P header header
+      → let hardOne = literalsAfter s hard (word s (bytes "h") at) in P hardOne hardOne
+      → let zero = start.Instead (Refused (refusal s Reason.weightZero at)) in P zero zero
+      → let soft = startBy s (numberOf Reason.weightTooBig) in let weight = uintAt s largest at in P (soft x at weight) (soft y at weight)
+      → P (startIn2022 s x at) (startIn2022 s y at)
+  unfolding startIn2022
+  starts-in-2022 P x y at header hardOne zero soft =
+      tested (unmoved at (word s (bytes "p") at))
+      (λ p. tested (unmoved at (word s (bytes "h") at))
+      (λ h. tested (isZero (uintAt s largest at)) (λ z. rw (p, h, z) zero) (λ z. rw (p, h, z) soft))
+      (λ h. rw (p, h) hardOne))
+      (λ p. rw p header)
 
   start-in-2022-placed : (absence : Absence) (at : ℕ) → StartPlaced s at (startIn2022 s absence at)
-  unfolding startIn2022 numbered
+  unfolding numbered
   start-in-2022-placed absence at =
       let h = word s (bytes "h") at in
-      chosen (StartPlaced s at) (unmoved at (word s (bytes "p") at))
-      (λ _. chosen (StartPlaced s at) (unmoved at h) (λ _. soft-by-placed absence at (uintAt s largest at) (uint-moves s largest at))
-      (λ _. then-spans (word-spans s (bytes "h") at) (linebreaks-spans s h)))
-      (λ _. omega arith)
+      starts-in-2022 (λ _. StartPlaced s at) absence absence at (omega arith) (then-spans (word-spans s (bytes "h") at) (linebreaks-spans s h)) (omega arith)
+      (start-by-placed (numberOf Reason.weightTooBig) absence at (uintAt s largest at) (uint-moves s largest at))
 
   start-placed : (f : Format) (groups : ℕ) (absence : Absence) (at : ℕ) → StartPlaced s at (startAt s f groups absence at)
   unfolding startAt

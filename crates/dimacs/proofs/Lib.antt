@@ -29,3 +29,13 @@ pub mod AlikeClauses
 pub mod AlikeOpenings
 pub mod AlikeLogs
 pub mod Prefix
+pub mod Allows
+pub mod WidenedNumbers
+pub mod WidenedRows
+pub mod WidenedClauses
+pub mod WidenedAnswers
+pub mod WidenedLogs
+pub mod NarrowedRows
+pub mod NarrowedClauses
+pub mod NarrowedAnswers
+pub mod Leniency

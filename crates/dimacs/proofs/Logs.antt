@@ -126,20 +126,21 @@ module _ (s : List ℕ) (rigor : Rigor) (room : ℕ) where
   unfolding logFrom rest-of
   log-kept P Q keeps l = kept (logLine s rigor room) _ rest-of log-falls P Q keeps (suc (length s)) l (omega arith)
 
-  log-from-spans : (l : Log) → Spans s 0 (l .at) → LogSpans s 0 (logFrom s rigor room l)
-  log-from-spans = log-kept (λ l. Spans s 0 (l .at)) (LogSpans s 0) (λ l h. go (l .at) h (logLine s rigor room l) (log-line-leads l))
+  -- From a place on, nothing is refused before it.
+  pub log-from-spans : (from : ℕ) (l : Log) → Spans s from (l .at) → LogSpans s from (logFrom s rigor room l)
+  log-from-spans from = log-kept (λ l. Spans s from (l .at)) (LogSpans s from) (λ l h. go (l .at) h (logLine s rigor room l) (log-line-leads l))
     where
-      to : (at : ℕ) → Spans s 0 at → (a : LogAnswer) → LogSpans s at a → LogSpans s 0 a
+      to : (at : ℕ) → Spans s from at → (a : LogAnswer) → LogSpans s at a → LogSpans s from a
       to at h (accepted v so) k = tt
       to at h (refusedLog r so) k = then-spans h k
 
-      go : (at : ℕ) → Spans s 0 at → (t : Step Log LogAnswer) → LineLeads s at t → Leads (λ l. Spans s 0 (l .at)) (LogSpans s 0) t
+      go : (at : ℕ) → Spans s from at → (t : Step Log LogAnswer) → LineLeads s at t → Leads (λ l. Spans s from (l .at)) (LogSpans s from) t
       go at h (again x) k = omega arith
       go at h (answer a) k = to at h a k
 
 pub log-spans : (s : List ℕ) (m : Mode) (room : ℕ) → LogSpans s 0 (log s m room)
 unfolding log
-log-spans s m room = go (logFrom (lined (m .ends) s) (m .rigor) room logBegin) (log-from-spans (lined (m .ends) s) (m .rigor) room logBegin (omega arith))
+log-spans s m room = go (logFrom (lined (m .ends) s) (m .rigor) room logBegin) (log-from-spans (lined (m .ends) s) (m .rigor) room 0 logBegin (omega arith))
   where
     go : (a : LogAnswer) → LogSpans (lined (m .ends) s) 0 a → LogSpans s 0 a
     go (accepted v so) h = tt

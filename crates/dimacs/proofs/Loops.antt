@@ -1,9 +1,8 @@
--- The laws of `loop` and `said`: one step, and then the loop from where it leads. No file but this one counts steps. Assumes nothing.
-use Prim.Native.Nat.{ℕ, zero, suc, _+_, _≤_, _<_}
+-- The laws of `loop` and `said`: one step, and then the loop from where it leads; and two loops side by side. No file but this one counts steps. Assumes nothing.
+use Prim.Native.Nat.{ℕ, zero, suc, _<_}
 use mathlib.Core.List.{List, [], _∷_, map}
-use mathlib.Core.Path.{_≡_, refl, ap, sym, _∙_, subst⁻¹}
+use mathlib.Core.Path.{_≡_, refl, ap, sym, _∙_, subst, subst⁻¹}
 use native.Mathlib.Omega.{arith}
-use lib.ListN.{length}
 use Rattle.dimacs.specs.Loop.{Step, again, answer, loop, Turn, on, last, said}
 
 -- What follows a step.
@@ -69,6 +68,43 @@ module _ {S A : Type 0} (step : S → Step S A) (over : A) (μ : S → ℕ) (fal
       both : (t : Step S A) → Falls μ s t → Leads P Q t → ((s′ : S) → μ s′ < μ s → P s′ → Q (loop step over n s′)) → Leads (λ s′. Q (loop step over n s′)) Q t
       both (again s′) l q k = k s′ l q
       both (answer a) l q k = q
+
+-- Two loops over the same states, side by side: the narrow one may answer where the wide one goes on.
+module _ {S A : Type 0} (R : A → A → Type 0) (wide : S → A) where
+  -- From a state the wide loop goes the way of a step of the narrow one; or the step answers, and what the wide loop comes to is in the relation to that.
+  abbrev pub Beside : S → Step S A → Type 0
+  Beside s = Leads (λ x. wide s ≡ wide x) (λ a. R a (wide s))
+
+  -- So it is where both take the step.
+  pub same-step : ((a : A) → R a a) → (s : S) (t : Step S A) → wide s ≡ after t wide → Beside s t
+  same-step itself s (again x) e = e
+  same-step itself s (answer a) e = subst⁻¹ (R a) e (itself a)
+
+  beside-from : (from s : S) (t : Step S A) → Beside s t → wide s ≡ wide from → Leads (λ x. wide x ≡ wide from) (λ a. R a (wide from)) t
+  beside-from from s (again x) h e = sym h ∙ e
+  beside-from from s (answer a) h e = subst (R a) e h
+
+  -- What both come to is in the relation, if it is so of each step; `kept` is the law of what the narrow loop keeps.
+  pub beside : (step : S → Step S A) (narrow : S → A)
+      → ((P : S → Type 0) (Q : A → Type 0) → ((s : S) → P s → Leads P Q (step s)) → (s : S) → P s → Q (narrow s))
+      → ((s : S) → Beside s (step s)) → (s : S) → R (narrow s) (wide s)
+  beside step narrow kept by s = kept (λ x. wide x ≡ wide s) (λ a. R a (wide s)) (λ x e. beside-from s x (step x) (by x) e) s refl
+
+-- The same the other way: where the wide loop's answer is as asked, the narrow one has it.
+module _ {S A : Type 0} (C : S → Type 0) (D : A → Type 0) (narrow : S → A) where
+  -- Where a step of the wide loop leads to what is as asked, so is the state before it, and the narrow loop goes the way of that step.
+  abbrev pub Along : S → Step S A → Type 0
+  Along s = Leads (λ x. C x → C s × (narrow s ≡ narrow x)) (λ a. D a → C s × (narrow s ≡ a))
+
+  along-from : (from s : S) (t : Step S A) → Along s t → (C s → narrow from ≡ narrow s) → Leads (λ x. C x → narrow from ≡ narrow x) (λ a. D a → narrow from ≡ a) t
+  along-from from s (again x) h e = λ c. let k = h c in e (k .0) ∙ k .1
+  along-from from s (answer a) h e = λ d. let k = h d in e (k .0) ∙ k .1
+
+  -- So it is of what both come to, if it is so of each step; `kept` is the law of what the wide loop keeps.
+  pub along : (step : S → Step S A) (wide : S → A)
+      → ((P : S → Type 0) (Q : A → Type 0) → ((s : S) → P s → Leads P Q (step s)) → (s : S) → P s → Q (wide s))
+      → ((s : S) → Along s (step s)) → (s : S) → D (wide s) → narrow s ≡ wide s
+  along step wide kept by s = kept (λ x. C x → narrow s ≡ narrow x) (λ a. D a → narrow s ≡ a) (λ x e. along-from s x (step x) (by x) e) s (λ _. refl)
 
 -- What follows a turn.
 abbrev pub andOn : {S A : Type 0} → Turn S A → (S → List A) → List A

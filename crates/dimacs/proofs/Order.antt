@@ -1,19 +1,19 @@
 -- The order in which document 01 looks for the next clause comes to the same as skipping the comments and line ends first. Assumes nothing.
-use Prim.Native.Nat.{ℕ, zero, suc, _+_, _-_, _<_}
+use Prim.Native.Nat.{ℕ, zero, suc, _+_, _-_, _≤_, _<_}
 use Prim.Native.Char.{code}
 use mathlib.Core.Bool.{Bool, true, false, cond, not, _&&_, _||_}
 use mathlib.Core.List.{List, []}
 use mathlib.Core.Path.{_≡_, refl, sym, _∙_}
 use mathlib.Core.Logic.{_⊎_, inl, inr}
 use native.Mathlib.Omega.{arith}
-use borrow.Author.Tests.{eq-eqb, ne-eqb, eqb-true, eqb-false}
+use borrow.Author.Tests.{eq-eqb, ne-eqb, eqb-true, eqb-false, le-leb}
 use lib.Dec.{leb, eqb}
 use lib.ListN.{length, getD}
 use Rattle.dimacs.specs.Loop.{Step, again, answer, loop}
 use Rattle.dimacs.specs.Names.{largest}
 use Rattle.dimacs.specs.Bytes.{bytes}
 use Rattle.dimacs.specs.Tokens.{none, unmoved, byteAt, blanks, word, lineEnd, nextLine, newline, linePast, commentOrNewline, lines, unsigned, uintAt, bracedUintAt, intAt}
-use Rattle.dimacs.specs.Clauses.{Answered, instead, absent, startIn2022, startAt, clauseAt}
+use Rattle.dimacs.specs.Clauses.{ended, Answered, says, instead, absent, startIn2022, startAt, clauseAt}
 use Rattle.dimacs.specs.Texts.{nextClause}
 use Rattle.dimacs.specs.declared.Format.{Format}
 use Rattle.dimacs.specs.declared.Format.the-variants.{Plain, Weighted, Grouped, Weighted2022}
@@ -28,9 +28,9 @@ use Rattle.dimacs.proofs.Tests.{tested, chosen, unlike}
 use Rattle.dimacs.proofs.Bytes.{and-false}
 use Rattle.dimacs.proofs.Loops.{after, loop-after}
 use Rattle.dimacs.proofs.Spans.{Spans, standing, moved, blanks-spans, line-end-spans, next-line-spans, newline-spans, lines-step}
-use Rattle.dimacs.proofs.Lines.{line-end-no, newline-no}
+use Rattle.dimacs.proofs.Lines.{no-byte, line-end-no, newline-no}
 use Rattle.dimacs.proofs.WordEnds.{word-no}
-use Rattle.dimacs.proofs.Numbers.{read-none, read-low, read-high, unsigned-none, minus-no, braced-no, int-missing}
+use Rattle.dimacs.proofs.Numbers.{read-none, read-low, read-high, read-end, unsigned-none, minus-no, braced-no, int-missing}
 use Rattle.dimacs.proofs.Literals.{literals-none}
 
 -- A number stands there, whatever its size.
@@ -91,6 +91,19 @@ module _ (s : List ℕ) (limits : Limits) where
       (λ z. let u : isUint (uintAt s largest at) ≡ false = rw (y, z) at h in rw (y, z, no-uint (uintAt s largest at) u))
       (λ z. unlike (rw (y, z) at h)))
       (λ y. unlike (rw y at h))
+
+-- At the end of the text no number stands, and no clause: where the end may come, it is answered.
+module _ (s : List ℕ) (at : ℕ) (h : length s ≤ at) where
+  no-number : unsigned s at ≡ none
+  no-number = unsigned-none (read-end (read-none s at) h) refl
+
+  pub end-permitted : instead (absent s MayEnd at) ≡ says ended at
+  unfolding absent
+  end-permitted = rw (le-leb (length s) at h)
+
+  pub clause-none : (f : Format) (limits : Limits) (room : ℕ) → clauseAt s limits room f MayEnd at ≡ says ended at
+  clause-none f limits room =
+      no-clause s limits room f MayEnd at (none-stands s limits f at (record { number = no-number; minus = no-byte s at 44 h; brace = no-byte s at 122 h; hard = no-byte s at 103 h; header = no-byte s at 111 h })) ∙ end-permitted
 
 module _ (s : List ℕ) where
   -- A comment is `c` and all up to the next line, then blanks.

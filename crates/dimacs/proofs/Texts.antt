@@ -2,7 +2,7 @@
 -- the text. Assumes nothing.
 use Prim.Native.Nat.{ℕ, zero, suc, _+_, _/_, _≤_, _<_}
 use mathlib.Core.List.{List, [], _∷_}
-use mathlib.Core.Path.{_≡_, refl, sym, subst}
+use mathlib.Core.Path.{_≡_, refl, subst⁻¹}
 use native.Mathlib.Omega.{arith}
 use lib.Dec.{leb, eqb}
 use lib.ListN.{length}
@@ -36,9 +36,9 @@ use Rattle.dimacs.proofs.Spans.{then-spans, EndCloses, end-closes, blan
 use Rattle.dimacs.proofs.Lined.{lined-length}
 use Rattle.dimacs.proofs.Clauses.{toCome, Placed, Onward, back, absent-onward, clause-at-onward, Fits, instead-fits, clause-at-fits}
 
--- Where a text opens: the clauses begin, or the header is refused, within the text, and no more variables are counted than the ceiling.
+-- Where a text opens: the clauses begin, or the header is refused, within the text; no more variables are counted than the ceiling, and no other count is above the largest.
 abbrev pub Opens : List ℕ → Opening → Type 0
-Opens s (opening.Header h at) = (at ≤ length s) × (h .variables ≤ ceiling)
+Opens s (opening.Header h at) = (at ≤ length s) × (h .variables ≤ ceiling) × (h .third ≤ largest) × (h .clauses ≤ largest)
 Opens s (opening.NoHeader at) = at ≤ length s
 Opens s (opening.Refused r) = r .place ≤ length s
 
@@ -53,23 +53,23 @@ module _ (s : List ℕ) where
       go uint.TooBig m w = h
       go (uint.Value n e) m w = k n e w (m .within)
 
-  header-end-opens : (h : Header) (at : ℕ) → h .variables ≤ ceiling → at ≤ length s → Opens s (headerEnd s h at)
+  header-end-opens : (h : Header) (at : ℕ) → h .variables ≤ ceiling → h .third ≤ largest → h .clauses ≤ largest → at ≤ length s → Opens s (headerEnd s h at)
   unfolding headerEnd numbered
-  header-end-opens h at k l = go (endOfLine s at) (end-closes s at)
+  header-end-opens h at k n m l = go (endOfLine s at) (end-closes s at)
     where
       go : (x : EndOfLine) → EndCloses s at x → Opens s (lineEnds x (opening.Header h) (opening.Refused (refusal s Reason.lineEndExpected at)))
       go end.Missing c = l
       go (end.Past e) c = omega arith
 
-  third-opens : (f : Format) (v c at : ℕ) → v ≤ ceiling → at ≤ length s → Opens s (thirdCount s f v c at)
+  third-opens : (f : Format) (v c at : ℕ) → v ≤ ceiling → c ≤ largest → at ≤ length s → Opens s (thirdCount s f v c at)
   unfolding thirdCount thirdThere
-  third-opens f v c at k l =
-      chosen (Opens s) (hasThird f) (λ _. counted-opens _ _ largest at _ l (λ t e _ m. header-end-opens (headerOf v c t) e k m))
-      (λ _. header-end-opens (headerOf v c 0) at k l)
+  third-opens f v c at k o l =
+      chosen (Opens s) (hasThird f) (λ _. counted-opens _ _ largest at _ l (λ t e n m. header-end-opens (headerOf v c t) e k n o m))
+      (λ _. header-end-opens (headerOf v c 0) at k (omega arith) o l)
 
   clause-count-opens : (f : Format) (v at : ℕ) → v ≤ ceiling → at ≤ length s → Opens s (clauseCount s f v at)
   unfolding clauseCount
-  clause-count-opens f v at k l = counted-opens _ _ largest at _ l (λ c e _ m. third-opens f v c e k m)
+  clause-count-opens f v at k l = counted-opens _ _ largest at _ l (λ c e o m. third-opens f v c e k o m)
 
   variable-count-opens : (f : Format) (at : ℕ) → at ≤ length s → Opens s (variableCount s f at)
   unfolding variableCount
@@ -213,29 +213,45 @@ OpeningWithin n (opening.Header h at) = Unit {0}
 OpeningWithin n (opening.NoHeader at) = Unit {0}
 OpeningWithin n (opening.Refused r) = r .place ≤ n
 
-module _ (s : List ℕ) (f : Format) (limits : Limits) (room : ℕ) where
-  abbrev from : ℕ → ℕ → List Answer
-  from at count = answersFrom s f limits room (progress at count final.Open)
+-- What holds after so many clauses at a place, if it holds past the next clause, holds at each place.
+pub by-next : (s : List ℕ) (P : ℕ → ℕ → Type 0) → ((at count : ℕ) → ((e : ℕ) → toCome s e < toCome s at → P e (oneMore count)) → P at count) → (at count : ℕ) → P at count
+by-next s P step at count = go (suc (toCome s at)) at count (omega arith)
+  where
+    go : (n at count : ℕ) → toCome s at < n → P at count
+    go zero at count h = absurd (omega arith)
+    go (suc n) at count h = step at count (λ e k. go n e (oneMore count) (omega arith))
 
-  answers-within : (n at count : ℕ) → at ≤ length s → toCome s at < n → AllWithin (length s) (from at count)
+module _ (s : List ℕ) (f : Format) (limits : Limits) (room : ℕ) where
+  -- The answers from a place on, after so many clauses.
+  abbrev pub answersAt : ℕ → ℕ → List Answer
+  answersAt at count = answersFrom s f limits room (progress at count final.Open)
+
+  -- One answer with its place, after so many clauses, and those that come after it.
+  abbrev pub answersPast : ℕ → ℕ → Answer → List Answer
+  answersPast count e a = andOn (turnBy (settledBy count e (finalOf a)) a) (answersFrom s f limits room)
+
+  pub answers-next : (at count : ℕ) → let d = nextClause s f limits room count at in answersAt at count ≡ answersPast count (d .place) (d .answer)
   unfolding turn answerAt
-  answers-within zero at count h k = absurd (omega arith)
-  answers-within (suc n) at count h k =
+  answers-next at count = answers-step s f limits room (progress at count final.Open)
+
+  answers-within : (at count : ℕ) → at ≤ length s → AllWithin (length s) (answersAt at count)
+  answers-within =
+      by-next s (λ at count. at ≤ length s → AllWithin (length s) (answersAt at count))
+      (λ at count next h.
       let d = nextClause s f limits room count at in
-      subst (AllWithin (length s)) (sym (answers-step s f limits room (progress at count final.Open)))
-      (go (d .place) (d .answer) (next-clause-onward s f limits room count at) (λ e h′ k′. answers-within n e (oneMore count) h′ k′))
+      subst⁻¹ (AllWithin (length s)) (answers-next at count) (go at count (d .place) (d .answer) h (next-clause-onward s f limits room count at) next))
     where
-      go : (e : ℕ) (a : Answer) → Placed s at e a → ((e′ : ℕ) → e′ ≤ length s → toCome s e′ < n → AllWithin (length s) (from e′ (oneMore count)))
-          → AllWithin (length s) (andOn (turnBy (settledBy count e (finalOf a)) a) (answersFrom s f limits room))
-      go e (clause extra so) p next = (tt, next e (p .within) (omega (arith, p .fewer)))
-      go e ended p next = (tt, tt)
-      go e (refused r so) p next = (omega (arith, p .within), tt)
+      go : (at count e : ℕ) (a : Answer) → at ≤ length s → Placed s at e a → ((x : ℕ) → toCome s x < toCome s at → x ≤ length s → AllWithin (length s) (answersAt x (oneMore count)))
+          → AllWithin (length s) (answersPast count e a)
+      go at count e (clause extra so) h p next = (tt, next e (p .fewer) (p .within))
+      go at count e ended h p next = (tt, tt)
+      go at count e (refused r so) h p next = (omega (arith, p .within), tt)
 
 within-by : (f : Format) (rigor : Rigor) (room : ℕ) (s : List ℕ) → let t = textBy f rigor room s (openingOf s f) in OpeningWithin (length s) (t .opened) × AllWithin (length s) (t .answers)
 within-by f rigor room s = go (openingOf s f) (opening-opens s f)
   where
     from-start : (limits : Limits) (at : ℕ) → at ≤ length s → AllWithin (length s) (answersFrom s f limits room (begin at))
-    from-start limits at h = answers-within s f limits room (suc (toCome s at)) at 0 h (omega arith)
+    from-start limits at h = answers-within s f limits room at 0 h
 
     go : (o : Opening) → Opens s o → let t = textBy f rigor room s o in OpeningWithin (length s) (t .opened) × AllWithin (length s) (t .answers)
     go (opening.Header h at) k = (tt, from-start (limitsOf f rigor h) at (k .0))

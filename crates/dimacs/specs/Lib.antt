@@ -14,4 +14,5 @@ pub mod Texts
 pub mod Logs
 pub mod Writing
 pub mod Seen
+pub mod Leniency
 pub mod Cases

@@ -5,10 +5,9 @@ use mathlib.Core.Option.{Option, some, none}
 use mathlib.Core.Path.{_≡_, refl, subst⁻¹}
 use mathlib.Core.Logic.{inl, inr, ⊎-elim}
 use native.Mathlib.Omega.{arith}
-use lib.Dec.{eqb}
 use lib.ListN.{length}
 use Rattle.dimacs.specs.Names.{inMode, ceiling, largest}
-use Rattle.dimacs.specs.Header.{unlimited, groupLimit, limitsOf}
+use Rattle.dimacs.specs.Header.{unlimited, limitsOf}
 use Rattle.dimacs.specs.Clauses.{ended}
 use Rattle.dimacs.specs.Texts.{answersFrom, begin, text}
 use Rattle.dimacs.specs.Writing.{headerLine}
@@ -20,7 +19,7 @@ use Rattle.dimacs.specs.declared.Rigor.the-variants.{Strict, Lenient}
 use Rattle.dimacs.specs.declared.Ends as rule
 use Rattle.dimacs.specs.declared.Header.{Header}
 use Rattle.dimacs.specs.declared.Limits.{Limits}
-use Rattle.dimacs.proofs.Tests.{chosen}
+use Rattle.dimacs.proofs.Allows.{lenient-allows}
 use Rattle.read_back.specs.ReadBack.{Clause, Formula, clauseLines, writing, answerOf, opens, limitsFor, Each, ThirdFits, AnyFits, ExtraFits, ClauseFits, Readable, ReadsBack, Opened, Told, Unrefused}
 use Rattle.read_back.proofs.Each.{each-on}
 use Rattle.read_back.proofs.Ends.{Ends, start, ends-all, ends-past, start-all, start-past}
@@ -38,20 +37,15 @@ bounded : (f : Format) (m : Mode) (o : Option Header) → AnyFits f o → Bounde
 bounded f m none k = omega arith
 bounded f m (some h) k = go (m .rigor)
   where
-    groups : (f : Format) → ThirdFits f (h .third) → groupLimit f (h .third) ≤ largest
-    groups Plain e = omega arith
-    groups Weighted e = omega arith
-    groups Weighted2022 e = omega arith
-    groups Grouped e = chosen (λ x. x ≤ largest) (eqb (h .third) 0) (λ _. omega arith) (λ _. e)
+    third : (f : Format) → ThirdFits f (h .third) → h .third ≤ largest
+    third Plain e = omega arith
+    third Weighted e = e
+    third Grouped e = e
+    third Weighted2022 e = omega arith
 
     go : (rigor : Rigor) → Bounded (limitsOf f rigor h)
     go Lenient = omega arith
-    go Strict =
-        record {
-          literals = chosen (λ x. x ≤ ceiling) (eqb (h .variables) 0) (λ _. omega arith) (λ _. k .variables);
-          groups = groups f (k .third);
-          clauses = k .clauses;
-        }
+    go Strict = let a = lenient-allows f h (k .variables) (third f (k .third)) in record { literals = a .literals; groups = a .groups; clauses = k .clauses }
 
 -- A formula by its two parts.
 abbrev formula : Option Header → List Clause → Formula

@@ -2,14 +2,13 @@
 use Prim.Native.Nat.{ℕ, suc, _+_, _≤_}
 use mathlib.Core.Bool.{cond}
 use mathlib.Core.List.{List, [], _∷_, _++_, map}
-use mathlib.Core.Path.{_≡_, refl, ap, _∙_}
+use mathlib.Core.Path.{_≡_, ap, _∙_}
 use mathlib.Core.Logic.{_⊎_, inl, inr, ⊎-elim}
 use native.Mathlib.Omega.{arith}
 use borrow.Author.Tests.{le-leb, lt-leb, lt-ltb, eqb-true, eqb-false}
 use lib.Dec.{leb, eqb}
 use lib.ListN.{length, getD}
 use Rattle.dimacs.specs.Names.{ceiling, largest}
-use Rattle.dimacs.specs.Tokens.{none, unsigned}
 use Rattle.dimacs.specs.Clauses.{Answered, ended, says, instead, absent, clauseAt}
 use Rattle.dimacs.specs.Texts.{progress, oneMore, nextClause, answerAt, settled, turnBy, turn, answersFrom}
 use Rattle.dimacs.specs.Writing.{clauseLine}
@@ -18,27 +17,12 @@ use Rattle.dimacs.specs.declared.Absence.the-variants.{MayEnd, NoClause}
 use Rattle.dimacs.specs.declared.Limits.{Limits}
 use Rattle.dimacs.specs.declared.Final.the-variants as final
 use Rattle.dimacs.proofs.Tests.{chosen}
-use Rattle.dimacs.proofs.Lines.{no-byte}
-use Rattle.dimacs.proofs.Numbers.{read-none, read-end, unsigned-none}
-use Rattle.dimacs.proofs.Order.{none-stands, no-clause}
+use Rattle.dimacs.proofs.Order.{end-permitted, clause-none}
 use Rattle.dimacs.proofs.Texts.{answers-step}
 use Rattle.read_back.specs.ReadBack.{Each, Clause, ClauseFits, answerOf, clauseLines}
 use Rattle.read_back.proofs.Ends.{Ends, start, ends-past, start-fits}
 use Rattle.read_back.proofs.Tokens.{lines-none}
 use Rattle.read_back.proofs.Clauses.{Opener, line-opens, clause-written}
-
--- At the end of the text no number stands, and no clause.
-module _ (s : List ℕ) (at : ℕ) (h : length s ≤ at) where
-  no-number : unsigned s at ≡ none
-  no-number = unsigned-none (read-end (read-none s at) h) refl
-
-  end-permitted : instead (absent s MayEnd at) ≡ says ended at
-  unfolding absent
-  end-permitted = rw (le-leb (length s) at h)
-
-  clause-none : (f : Format) (limits : Limits) (room : ℕ) → clauseAt s limits room f MayEnd at ≡ says ended at
-  clause-none f limits room =
-      no-clause s limits room f MayEnd at (none-stands s limits f at (record { number = no-number; minus = no-byte s at 44 h; brace = no-byte s at 122 h; hard = no-byte s at 103 h; header = no-byte s at 111 h })) ∙ end-permitted
 
 pub lines-open : (f : Format) (cs : List Clause) → Opener (getD (clauseLines f cs) 0 0)
 unfolding clauseLines
