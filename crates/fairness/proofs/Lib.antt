@@ -3,4 +3,5 @@ pub mod Rings
 pub mod Desk
 pub mod Reader
 pub mod Promises
+pub mod SideBySide
 pub mod Lending
