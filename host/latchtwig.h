@@ -25,7 +25,7 @@ extern "C" {
 #define LATCHTWIG_LOG 3u           /* what a solver prints: `s SATISFIABLE`, then `v 1 -2 0` */
 #define LATCHTWIG_WEIGHTED_2022 4u /* hard clauses and soft ones with a weight each, by the rules of 2022: no header, `h 1 -2 0` and `5 1 -2 0`; strict and lenient read alike */
 
-/* Modes. A text whose lines end with CR alone needs one of the last two. In the others it is one comment if it begins with one, and so a formula without clauses. */
+/* Modes. Lenient never changes what strict reads: a text taken strictly is taken leniently, and one refused leniently is refused strictly, at that place or before it. A text whose lines end with CR alone needs one of the last two. In the others it is one comment if it begins with one, and so a formula without clauses. */
 #define LATCHTWIG_STRICT 0u
 #define LATCHTWIG_LENIENT 1u    /* a header's counts are not applied; log lines of no known kind are passed over */
 #define LATCHTWIG_STRICT_CR 2u  /* as strict, and a CR without LF ends a line too */

@@ -6,6 +6,9 @@ For each FILE, or for standard input (`-`, or none named), one line says that it
 FILE:LINE:COLUMN, the number, and what is expected there. With --list what was read comes before it: the header and each clause, or the literals of a log. The program `reader_cases`
 reads the files; it is proved and built first.
 
+The lenient modes apply no count of a header and pass over log lines of no known kind. They never change what the strict ones read: what is accepted strictly is read the same, and what is
+refused leniently is refused strictly, at that place or before it.
+
 In the modes with -cr a CR without LF ends a line too. In the others a text with such lines is one comment if it begins with one, and is accepted as a formula without clauses.
 
 Exit status: 0 if every file is accepted, 1 if one is refused. It is 2 if the words are wrong, if a file cannot be read or has more than 65,536 bytes, if what is found

@@ -45,7 +45,8 @@ pub enum Format {
 pub enum Mode {
     /// A header's counts bind its clauses, and each line of a log must be of a permitted kind.
     Strict = 0,
-    /// A header is read but its counts are not applied, and log lines of no permitted kind are passed over.
+    /// A header is read but its counts are not applied, and log lines of no permitted kind are passed over. It never changes what [`Mode::Strict`] reads: a text taken strictly is taken
+    /// leniently, and one refused leniently is refused strictly, at that place or before it.
     Lenient = 1,
     /// As [`Mode::Strict`], and a CR without LF ends a line too. Without this a text of such lines is one comment if it begins with one, and so a formula without clauses.
     StrictCr = 2,
