@@ -13,7 +13,7 @@ use Rattle.dimacs.specs.Leniency.{handedOut, ReachesEnd, ClausesWithin}
 use Rattle.dimacs.specs.declared.Format.{Format}
 use Rattle.dimacs.specs.declared.Limits.{Limits}
 use Rattle.dimacs.proofs.Clauses.{toCome, Placed}
-use Rattle.dimacs.proofs.Texts.{next-clause-onward, by-next, answersAt, answersPast, answers-next}
+use Rattle.dimacs.proofs.Texts.{next-clause-onward, by-next, answersAt, answerThen, answers-next}
 use Rattle.dimacs.proofs.NarrowedClauses.{AnswerTrue, next-clause-narrowed}
 
 -- Each answer after so many clauses is within the limits, up to the end.
@@ -48,8 +48,8 @@ module _ (s : List ℕ) (f : Format) (room : ℕ) (narrow wide : Limits) (any : 
   abbrev SameAt : ℕ → ℕ → Type 0
   SameAt at count = AnswersTrue f narrow count (answersAt s f wide room at count) → answersAt s f narrow room at count ≡ answersAt s f wide room at count
 
-  same-next : (at count e : ℕ) (x : Answer) (y : Answered) → (AnswerTrue f narrow count x → y ≡ says x e) → Placed s at e x → AnswersTrue f narrow count (answersPast s f wide room count e x)
-      → ((n : ℕ) → toCome s n < toCome s at → SameAt n (oneMore count)) → answersPast s f narrow room count (y .place) (y .answer) ≡ answersPast s f wide room count e x
+  same-next : (at count e : ℕ) (x : Answer) (y : Answered) → (AnswerTrue f narrow count x → y ≡ says x e) → Placed s at e x → AnswersTrue f narrow count (answerThen s f wide room count e x)
+      → ((n : ℕ) → toCome s n < toCome s at → SameAt n (oneMore count)) → answerThen s f narrow room count (y .place) (y .answer) ≡ answerThen s f wide room count e x
   same-next at count e (clause extra so) y is p t next = rw (is (t .0)) (ap (λ l. clause extra so ∷ l) (next e (p .fewer) (t .1)))
   same-next at count e ended y is p t next = rw (is t) refl
   same-next at count e (refused r so) y is p t next = absurd t

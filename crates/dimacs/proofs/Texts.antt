@@ -213,7 +213,7 @@ OpeningWithin n (opening.Header h at) = Unit {0}
 OpeningWithin n (opening.NoHeader at) = Unit {0}
 OpeningWithin n (opening.Refused r) = r .place ≤ n
 
--- What holds after so many clauses at a place, if it holds past the next clause, holds at each place.
+-- What holds at a place after so many clauses, if it holds past the next clause, holds at every place.
 pub by-next : (s : List ℕ) (P : ℕ → ℕ → Type 0) → ((at count : ℕ) → ((e : ℕ) → toCome s e < toCome s at → P e (oneMore count)) → P at count) → (at count : ℕ) → P at count
 by-next s P step at count = go (suc (toCome s at)) at count (omega arith)
   where
@@ -227,10 +227,10 @@ module _ (s : List ℕ) (f : Format) (limits : Limits) (room : ℕ) where
   answersAt at count = answersFrom s f limits room (progress at count final.Open)
 
   -- One answer with its place, after so many clauses, and those that come after it.
-  abbrev pub answersPast : ℕ → ℕ → Answer → List Answer
-  answersPast count e a = andOn (turnBy (settledBy count e (finalOf a)) a) (answersFrom s f limits room)
+  abbrev pub answerThen : ℕ → ℕ → Answer → List Answer
+  answerThen count e a = andOn (turnBy (settledBy count e (finalOf a)) a) (answersFrom s f limits room)
 
-  pub answers-next : (at count : ℕ) → let d = nextClause s f limits room count at in answersAt at count ≡ answersPast count (d .place) (d .answer)
+  pub answers-next : (at count : ℕ) → let d = nextClause s f limits room count at in answersAt at count ≡ answerThen count (d .place) (d .answer)
   unfolding turn answerAt
   answers-next at count = answers-step s f limits room (progress at count final.Open)
 
@@ -242,7 +242,7 @@ module _ (s : List ℕ) (f : Format) (limits : Limits) (room : ℕ) where
       subst⁻¹ (AllWithin (length s)) (answers-next at count) (go at count (d .place) (d .answer) h (next-clause-onward s f limits room count at) next))
     where
       go : (at count e : ℕ) (a : Answer) → at ≤ length s → Placed s at e a → ((x : ℕ) → toCome s x < toCome s at → x ≤ length s → AllWithin (length s) (answersAt x (oneMore count)))
-          → AllWithin (length s) (answersPast count e a)
+          → AllWithin (length s) (answerThen count e a)
       go at count e (clause extra so) h p next = (tt, next e (p .fewer) (p .within))
       go at count e ended h p next = (tt, tt)
       go at count e (refused r so) h p next = (omega (arith, p .within), tt)

@@ -11,7 +11,7 @@ use Rattle.dimacs.specs.declared.Limits.{Limits}
 use Rattle.dimacs.specs.declared.Refusal.{Refusal}
 use Rattle.dimacs.proofs.Allows.{Allows}
 use Rattle.dimacs.proofs.Clauses.{toCome, Placed}
-use Rattle.dimacs.proofs.Texts.{next-clause-onward, by-next, answersAt, answersPast, answers-next}
+use Rattle.dimacs.proofs.Texts.{next-clause-onward, by-next, answersAt, answerThen, answers-next}
 use Rattle.dimacs.proofs.WidenedClauses.{AnswerPast, AnswerWidened, next-clause-widened}
 
 -- None of the answers is refused before a place.
@@ -37,13 +37,13 @@ module _ (s : List ℕ) (f : Format) (limits : Limits) (room : ℕ) where
       subst⁻¹ (AllPast low) (answers-next s f limits room at count) (go at count (d .place) (d .answer) h (next-clause-onward s f limits room count at) next))
     where
       go : (at count e : ℕ) (a : Answer) → low ≤ at → Placed s at e a → ((x : ℕ) → toCome s x < toCome s at → low ≤ x → AllPast low (answersAt s f limits room x (oneMore count)))
-          → AllPast low (answersPast s f limits room count e a)
+          → AllPast low (answerThen s f limits room count e a)
       go at count e (clause extra so) h p next = next e (p .fewer) (omega (arith, p .on))
       go at count e ended h p next = tt
       go at count e (refused r so) h p next = omega (arith, p .on)
 
   -- What is read on from a refusal, and all that comes after it, is refused no sooner.
-  past-then : (r : Refusal) (so : List ℤ) (count e : ℕ) (a : Answer) → AnswerPast (r .place) e a → Follow (refused r so ∷ []) (answersPast s f limits room count e a)
+  past-then : (r : Refusal) (so : List ℤ) (count e : ℕ) (a : Answer) → AnswerPast (r .place) e a → Follow (refused r so ∷ []) (answerThen s f limits room count e a)
   past-then r so count e (clause extra more) h = stops (answers-past (r .place) e (oneMore count) h)
   past-then r so count e ended h = stops tt
   past-then r so count e (refused q more) h = stops h
@@ -54,7 +54,7 @@ module _ (s : List ℕ) (f : Format) (room : ℕ) {narrow wide : Limits} (a : Al
   FollowAt at count = Follow (answersAt s f narrow room at count) (answersAt s f wide room at count)
 
   follow-next : (at count e : ℕ) (x : Answer) (y : Answered) → AnswerWidened e x y → Placed s at e x → ((n : ℕ) → toCome s n < toCome s at → FollowAt n (oneMore count))
-      → Follow (answersPast s f narrow room count e x) (answersPast s f wide room count (y .place) (y .answer))
+      → Follow (answerThen s f narrow room count e x) (answerThen s f wide room count (y .place) (y .answer))
   follow-next at count e (clause extra so) y w p next = rw w (clause-then (next e (p .fewer)))
   follow-next at count e ended y w p next = rw w ends
   follow-next at count e (refused r so) y w p next = past-then s f wide room r so count (y .place) (y .answer) w
