@@ -5,8 +5,8 @@ Usage: modes.py
 
 Each stored text of crates/reader_cases is asked in modes 0 and 1, and in modes 2 and 3. What must be so of the two answers is document 02's, in T-12, and is said here of lines, apart from
 the statement in crates/dimacs/specs/Leniency.antt: both open alike; the clauses answered strictly are the first ones answered leniently; a text that is read to its end strictly, and a log that is accepted
-strictly, has the same lines leniently; what is refused leniently is refused strictly, at that place or before it; and a text that is read to its end leniently, and whose counts are true, has the
-same lines strictly. Then wrong answers are planted, each of which must be found. The exit status is 1 if anything is not as it must be.
+strictly, has the same lines leniently; what is refused leniently is refused strictly, at that place or before it; and a text that is read to its end leniently has the same lines strictly exactly if its
+counts are true. Then wrong answers are planted, each of which must be found. The exit status is 1 if anything is not as it must be.
 """
 
 import collections
@@ -86,6 +86,8 @@ def faults(format, strict, lenient):
         yield "refused leniently and not strictly up to there"
     if format != LOG and accepted(lenient) and lenient != strict and counts_true(format, lenient):
         yield "counts are true, and read otherwise strictly"
+    if format != LOG and accepted(strict) and not counts_true(format, strict):
+        yield "counts are not true, and accepted strictly"
 
 
 def outcome(strict, lenient):
@@ -96,7 +98,7 @@ def outcome(strict, lenient):
     return "refused both ways alike" if strict == lenient else "refused leniently further on"
 
 
-# ---- wrong answers, lenient ones made of strict ones, and strict ones of a text whose counts are true
+# ---- wrong answers, made of right ones
 
 
 def clause_skipped(lines):
@@ -128,11 +130,26 @@ def literal_lost(lines):
     return [b" ".join(line.split()[:-1]) + b"\n" if kind(line) == b"literals" and len(line.split()) > 1 else line for line in lines]
 
 
-def end_refused_strictly(format, lenient):
-    return end_refused(lenient) if accepted(lenient) and format != LOG and counts_true(format, lenient) else lenient
+def count_changed(lines):
+    return [re.sub(rb"^(header [0-9]+) ([1-9][0-9]*)", lambda found: found[1] + b" %d" % (int(found[2]) + 1), line) for line in lines]
 
 
-WRONG = clause_skipped, weight_changed, header_for_none, end_refused, refused_sooner, verdict_changed, literal_lost
+# What a lenient reading may make wrong of a strict one.
+LENIENT = clause_skipped, weight_changed, header_for_none, end_refused, refused_sooner, verdict_changed, literal_lost
+
+# All that is planted, each at least once.
+KINDS = [spoil.__name__ for spoil in LENIENT] + ["end_refused_strictly", "count_changed"]
+
+
+def wrong(format, strict, lenient):
+    """Pairs of answers with a fault, each by its name: the lenient one of each kind, an end that is refused strictly though counts are true, and a count that neither reading holds to."""
+    for spoil in LENIENT:
+        if spoil(strict) != strict:
+            yield spoil.__name__, strict, spoil(strict)
+    if format != LOG and accepted(lenient) and counts_true(format, lenient):
+        yield "end_refused_strictly", end_refused(lenient), lenient
+    if accepted(strict) and count_changed(strict) != strict:
+        yield "count_changed", count_changed(strict), count_changed(strict)
 
 
 def main():
@@ -144,21 +161,17 @@ def main():
     for pair, (strict, lenient) in zip(pairs, answered(pairs), strict=True):
         told[outcome(strict, lenient)] += 1
         differing += [(fault, pair, strict, lenient) for fault in faults(pair[0], strict, lenient)]
-        for wrong in WRONG:
-            spoilt = wrong(strict)
-            planted[wrong.__name__] += spoilt != strict
-            missed[wrong.__name__] += spoilt != strict and not any(faults(pair[0], strict, spoilt))
-        spoilt = end_refused_strictly(pair[0], lenient)
-        planted[end_refused_strictly.__name__] += spoilt != lenient
-        missed[end_refused_strictly.__name__] += spoilt != lenient and not any(faults(pair[0], spoilt, lenient))
+        for name, *spoilt in wrong(pair[0], strict, lenient):
+            planted[name] += 1
+            missed[name] += not any(faults(pair[0], *spoilt))
     print(f"{len(pairs)} pairs: " + ", ".join(f"{count} {what}" for what, count in sorted(told.items())) + f"; {len(differing)} differences")
     for fault, (format, modes, room, text), *answers in sorted(differing, key=lambda found: len(found[1][3]))[:3]:
         print(f"{fault}: format {format}, room {room}, text {text!r}")
         for mode, lines in zip(modes, answers):
             print(f"  mode {mode}: " + "; ".join(line.decode().strip() for line in lines))
-    for wrong, times in planted.items():
-        print(f"{wrong}: {times} planted, {missed[wrong]} missed")
-    sys.exit(1 if differing or any(missed.values()) or not all(planted.values()) else 0)
+    for name in KINDS:
+        print(f"{name}: {planted[name]} planted, {missed[name]} missed")
+    sys.exit(1 if differing or any(missed.values()) or not all(planted[name] for name in KINDS) else 0)
 
 
 main()

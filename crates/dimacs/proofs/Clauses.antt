@@ -46,7 +46,7 @@ LiteralsFit room (stopped r so) = length so ≤ room
 
 module _ (s : List ℕ) (limit room : ℕ) where
   -- What holds of every way on that a row opens.
-  by-row : (P : Step Reading Literals → Type 0) (held at : ℕ) (so : List ℤ) → P (answer nothing) → P (answer (stopped (refusal s Reason.literalExpectedAfterLines at) so))
+  pub by-row : (P : Step Reading Literals → Type 0) (held at : ℕ) (so : List ℤ) → P (answer nothing) → P (answer (stopped (refusal s Reason.literalExpectedAfterLines at) so))
       → P (answer (stopped (refusal s Reason.literalExpected at) so)) → (Moves s at (linebreaks s at) → P (again (reads (linebreaks s at) so)))
       → P (onRow s limit room held (ends at so))
   by-row P held at so n a b c =

@@ -1,4 +1,4 @@
--- A lenient reading never changes a strict one, and a text whose counts are true is read alike both ways. Assumes nothing.
+-- A lenient reading never changes a strict one, and a text is read alike both ways to its end exactly if its counts are true. Assumes nothing.
 use Prim.Native.Nat.{ℕ}
 use mathlib.Core.List.{List, [], _∷_}
 use mathlib.Core.Option.{some}
@@ -17,12 +17,13 @@ use Rattle.dimacs.specs.declared.Opening.{Opening}
 use Rattle.dimacs.specs.declared.Opening.the-variants as opening
 use Rattle.dimacs.specs.declared.Refusal.{Refusal}
 use Rattle.dimacs.proofs.Allows.{allows-itself, lenient-allows}
-use Rattle.dimacs.proofs.Texts.{Opens, opening-opens}
-use Rattle.dimacs.specs.Leniency.{strictly, leniently, logStrictly, logLeniently, handedOut, ReachesEnd, FirstOf, TextsUnchanged, LogsUnchanged, refusalAmong, refusalBy, logRefusal, NoLater, TextsRefused, LogsRefused, CountsTrueBy, TrueCountsAlike}
+use Rattle.dimacs.proofs.Texts.{Opens, opening-opens, answersAt}
+use Rattle.dimacs.specs.Leniency.{strictly, leniently, logStrictly, logLeniently, handedOut, ReachesEnd, FirstOf, TextsUnchanged, LogsUnchanged, refusalAmong, refusalBy, logRefusal, NoLater, TextsRefused, LogsRefused, CountsTrueBy, TrueCountsAlike, StrictCountsTrue}
 use Rattle.dimacs.proofs.WidenedAnswers as follow
 use Rattle.dimacs.proofs.WidenedAnswers.{AllPast, Follow, answers-follow}
 use Rattle.dimacs.proofs.WidenedLogs.{LogWidened, log-widened}
-use Rattle.dimacs.proofs.NarrowedAnswers.{counts-true, answers-narrowed}
+use Rattle.dimacs.proofs.NarrowedAnswers.{answers-by-counts, answers-narrowed}
+use Rattle.dimacs.proofs.TrueCounts.{answers-true, counts-by-answers}
 
 -- Two readings open alike, and the answers of one follow those of the other.
 pub record Alongside (strict lenient : Text) : Type 0 where
@@ -98,10 +99,22 @@ counted-alike : (f : Format) (room : ℕ) (s : List ℕ) (o : Opening) → Opens
 counted-alike f room s (opening.Header h at) k e c =
     let l = textBy f Lenient room s (opening.Header h at) .answers in
     ap (λ l. record { opened = opening.Header h at; answers = l })
-    (answers-narrowed s f room (limitsOf f Strict h) unlimited refl at 0 (counts-true f (limitsOf f Strict h) (k .3) l 0 e (c .within) (⊎-elim (λ z. inl z) (λ z. inr (omega (arith, z))) (c .number))))
+    (answers-narrowed s f room (limitsOf f Strict h) unlimited refl at 0 (answers-by-counts f (limitsOf f Strict h) (k .3) l 0 e (c .within) (⊎-elim (λ z. inl z) (λ z. inr (omega (arith, z))) (c .number))))
 counted-alike f room s (opening.NoHeader at) k e c = refl
 counted-alike f room s (opening.Refused r) k e c = refl
 
 pub true-counts-alike : TrueCountsAlike
 unfolding text
 true-counts-alike f rule room s = let read = lined rule s in counted-alike f room read (openingOf read f) (opening-opens read f)
+
+counted-by : (f : Format) (room : ℕ) (s : List ℕ) (o : Opening) → Opens s o → let t = textBy f Strict room s o in ReachesEnd (t .answers) → CountsTrueBy f (t .opened) (t .answers)
+counted-by f room s (opening.Header h at) k e =
+    let limits = limitsOf f Strict h in
+    let d = counts-by-answers f limits (k .3) (answersAt s f limits room at 0) 0 (inr (omega arith)) (answers-true s f limits room at 0 e) in
+    record { within = d .0; number = ⊎-elim (λ z. inl z) (λ z. inr (omega (arith, z))) (d .1) }
+counted-by f room s (opening.NoHeader at) k e = tt
+counted-by f room s (opening.Refused r) k e = tt
+
+pub strict-counts-true : StrictCountsTrue
+unfolding text
+strict-counts-true f rule room s = let read = lined rule s in counted-by f room read (openingOf read f) (opening-opens read f)

@@ -38,4 +38,5 @@ pub mod WidenedLogs
 pub mod NarrowedRows
 pub mod NarrowedClauses
 pub mod NarrowedAnswers
+pub mod TrueCounts
 pub mod Leniency

@@ -24,10 +24,10 @@ AnswersTrue f limits count (ended ∷ l) = AnswerTrue f limits count ended
 AnswersTrue f limits count (refused r so ∷ l) = ⊥
 
 -- So they are where the clauses are within the limits and as many as are counted.
-pub counts-true : (f : Format) (limits : Limits) → limits .clauses ≤ largest → (l : List Answer) (count : ℕ) → ReachesEnd l → ClausesWithin f limits (handedOut l)
+pub answers-by-counts : (f : Format) (limits : Limits) → limits .clauses ≤ largest → (l : List Answer) (count : ℕ) → ReachesEnd l → ClausesWithin f limits (handedOut l)
     → (limits .clauses ≡ 0) ⊎ (limits .clauses ≡ count + length (handedOut l)) → AnswersTrue f limits count l
-counts-true f limits m [] count e w n = absurd e
-counts-true f limits m (clause extra so ∷ l) count e w n = (((w .0, w .1), fewer n), counts-true f limits m l (oneMore count) e (w .2) (onward n))
+answers-by-counts f limits m [] count e w n = absurd e
+answers-by-counts f limits m (clause extra so ∷ l) count e w n = (((w .0, w .1), fewer n), answers-by-counts f limits m l (oneMore count) e (w .2) (onward n))
   where
     fewer : (limits .clauses ≡ 0) ⊎ (limits .clauses ≡ count + length ((extra, so) ∷ handedOut l)) → (limits .clauses ≡ 0) ⊎ (count < limits .clauses)
     fewer (inl z) = inl z
@@ -36,12 +36,12 @@ counts-true f limits m (clause extra so ∷ l) count e w n = (((w .0, w .1), few
     onward : (limits .clauses ≡ 0) ⊎ (limits .clauses ≡ count + length ((extra, so) ∷ handedOut l)) → (limits .clauses ≡ 0) ⊎ (limits .clauses ≡ oneMore count + length (handedOut l))
     onward (inl z) = inl z
     onward (inr z) = inr (rw (lt-ltb count largest (omega (arith, z, m))) (omega (arith, z)))
-counts-true f limits m (ended ∷ l) count e w n = go n
+answers-by-counts f limits m (ended ∷ l) count e w n = go n
   where
     go : (limits .clauses ≡ 0) ⊎ (limits .clauses ≡ count + 0) → (limits .clauses ≡ 0) ⊎ (limits .clauses ≤ count)
     go (inl z) = inl z
     go (inr z) = inr (omega (arith, z))
-counts-true f limits m (refused r so ∷ l) count e w n = absurd e
+answers-by-counts f limits m (refused r so ∷ l) count e w n = absurd e
 
 module _ (s : List ℕ) (f : Format) (room : ℕ) (narrow wide : Limits) (any : wide .clauses ≡ 0) where
   -- Answers that are within the narrow limits are the same under both.

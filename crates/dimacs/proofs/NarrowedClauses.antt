@@ -2,7 +2,7 @@
 use Prim.Native.Nat.{ℕ, _≤_, _<_}
 use mathlib.Core.List.{List}
 use mathlib.Core.Logic.{_⊎_, inl, inr, ⊎-elim}
-use mathlib.Core.Path.{_≡_, refl, sym, _∙_, subst⁻¹}
+use mathlib.Core.Path.{_≡_, refl, sym, _∙_, subst, subst⁻¹}
 use native.Mathlib.Omega.{arith}
 use borrow.Author.Tests.{eq-eqb, ne-eqb, le-leb, lt-leb, leb-true}
 use lib.Dec.{leb, eqb}
@@ -37,10 +37,16 @@ ClauseWithin f limits ended = ⊥
 ClauseWithin f limits (refused r so) = ⊥
 
 -- An answer is the end.
-abbrev IsEnd : Answer → Type 0
+abbrev pub IsEnd : Answer → Type 0
 IsEnd (clause extra so) = ⊥
 IsEnd ended = Unit {0}
 IsEnd (refused r so) = ⊥
+
+-- The end may come where this is meant if no number stands.
+abbrev pub EndMay : Absence → Type 0
+EndMay MayEnd = Unit {0}
+EndMay NoClause = ⊥
+EndMay NoLiterals = ⊥
 
 -- A clause begins with literals at a place, after this weight or group.
 abbrev BeginsAt : ℕ → ℕ → Start → Type 0
@@ -93,34 +99,30 @@ module _ (s : List ℕ) where
       go (end.Past n) k = k
   finish-within f limits extra at y (stopped r so) h = absurd h
 
-  -- The end is answered at the end alone.
-  absent-end : (x : Absence) (at : ℕ) → IsEnd (instead (absent s x at) .answer) → length s ≤ at
+  -- The end is answered at the end alone, and where it may come.
+  absent-end : (x : Absence) (at : ℕ) → IsEnd (instead (absent s x at) .answer) → EndMay x × (length s ≤ at)
   unfolding absent
-  absent-end MayEnd at h = tested (atEnd s at) (λ e. leb-true (length s) at e) (λ e. let k : ⊥ = rw e at h in absurd k)
+  absent-end MayEnd at h = tested (atEnd s at) (λ e. (tt, leb-true (length s) at e)) (λ e. let k : ⊥ = rw e at h in absurd k)
   absent-end NoClause at h = absurd h
   absent-end NoLiterals at h = absurd h
 
-  literals-owed : (at : ℕ) → IsEnd (instead (absent s NoLiterals at) .answer) → ⊥
-  unfolding absent
-  literals-owed at h = h
+  -- Nothing is owed but what is where a clause would begin; or a weight or group is read, after which literals are.
+  abbrev EndsBy : Absence → ℕ → Start → Type 0
+  EndsBy y at (start.Literals extra e x) = ((e ≡ at) × (x ≡ y)) ⊎ (x ≡ NoLiterals)
+  EndsBy y at (start.Instead i) = IsEnd (instead i .answer) → EndMay y × (length s ≤ at)
 
-  -- Nothing is owed where a clause would begin; or a weight or group is read, after which literals are.
-  abbrev MayEndAt : ℕ → Start → Type 0
-  MayEndAt at (start.Literals extra e x) = (e ≡ at) ⊎ (x ≡ NoLiterals)
-  MayEndAt at (start.Instead i) = IsEnd (instead i .answer) → length s ≤ at
+  start-by-end : (big : ℕ) (y : Absence) (at : ℕ) (u : Uint) → EndsBy y at (startBy s big y at u)
+  start-by-end big y at uint.Missing = absent-end y at
+  start-by-end big y at uint.TooBig = λ h. absurd h
+  start-by-end big y at (uint.Value n e) = inr refl
 
-  start-by-end : (big : ℕ) (x : Absence) (at : ℕ) (u : Uint) → MayEndAt at (startBy s big x at u)
-  start-by-end big x at uint.Missing = absent-end x at
-  start-by-end big x at uint.TooBig = λ h. absurd h
-  start-by-end big x at (uint.Value n e) = inr refl
-
-  start-end : (f : Format) (groups : ℕ) (x : Absence) (at : ℕ) → MayEndAt at (startAt s f groups x at)
+  start-end : (f : Format) (groups : ℕ) (y : Absence) (at : ℕ) → EndsBy y at (startAt s f groups y at)
   unfolding startAt
-  start-end Plain groups x at = inl refl
-  start-end Weighted groups x at = start-by-end (numberOf Reason.weightTooBig) x at (uintAt s largest at)
-  start-end Grouped groups x at = start-by-end (numberOf Reason.groupTooBig) x at (bracedUintAt s groups at)
-  start-end Weighted2022 groups x at =
-      starts-in-2022 s (λ _. MayEndAt at) x x at (λ h. absurd h) (inr refl) (λ h. absurd h) (start-by-end (numberOf Reason.weightTooBig) x at (uintAt s largest at))
+  start-end Plain groups y at = inl (refl, refl)
+  start-end Weighted groups y at = start-by-end (numberOf Reason.weightTooBig) y at (uintAt s largest at)
+  start-end Grouped groups y at = start-by-end (numberOf Reason.groupTooBig) y at (bracedUintAt s groups at)
+  start-end Weighted2022 groups y at =
+      starts-in-2022 s (λ _. EndsBy y at) y y at (λ h. absurd h) (inr refl) (λ h. absurd h) (start-by-end (numberOf Reason.weightTooBig) y at (uintAt s largest at))
 
   finish-end : (extra at : ℕ) (y : Absence) (l : Literals) → IsEnd (finish s extra at y l .answer) → IsEnd (instead (absent s y at) .answer)
   unfolding closing
@@ -158,14 +160,18 @@ module _ (s : List ℕ) (narrow wide : Limits) (room : ℕ) (f : Format) where
           rw (b .0, b .1)
           (closes-alike extra e i j (literals s (narrow .literals) room e) (literals s (wide .literals) room e) (literals-narrowed s (narrow .literals) (wide .literals) room e (d .1)) (d .1))
 
-  end-only : (y : Absence) (at : ℕ) → IsEnd (clauseAt s wide room f y at .answer) → length s ≤ at
+  -- The end is answered at the end of the text alone, and where no clause is owed.
+  pub end-only : (y : Absence) (at : ℕ) → IsEnd (clauseAt s wide room f y at .answer) → EndMay y × (length s ≤ at)
   unfolding clauseAt
   end-only y at = go (startAt s f (wide .groups) y at) (start-end s f (wide .groups) y at)
     where
-      go : (q : Start) → MayEndAt s at q → IsEnd (clauseBy s wide room q .answer) → length s ≤ at
+      go : (q : Start) → EndsBy s y at q → IsEnd (clauseBy s wide room q .answer) → EndMay y × (length s ≤ at)
       go (start.Instead i) k h = k h
-      go (start.Literals extra e j) (inl k) h = rw k at (absent-end s j e (finish-end s extra e j (literals s (wide .literals) room e) h))
-      go (start.Literals extra e j) (inr k) h = absurd (literals-owed s e (rw k at (finish-end s extra e j (literals s (wide .literals) room e) h)))
+      go (start.Literals extra e x) k h = by k (absent-end s x e (finish-end s extra e x (literals s (wide .literals) room e) h))
+        where
+          by : ((e ≡ at) × (x ≡ y)) ⊎ (x ≡ NoLiterals) → EndMay x × (length s ≤ e) → EndMay y × (length s ≤ at)
+          by (inl l) d = (subst EndMay (l .1) (d .0), rw (l .0) at (d .1))
+          by (inr l) d = absurd (subst EndMay l (d .0))
 
   pub next-clause-narrowed : wide .clauses ≡ 0 → (count at : ℕ) → AnswerTrue f narrow count (nextClause s f wide room count at .answer)
       → nextClause s f narrow room count at ≡ nextClause s f wide room count at
@@ -182,7 +188,7 @@ module _ (s : List ℕ) (narrow wide : Limits) (room : ℕ) (f : Format) where
           ⊎-elim (λ z. rw (eq-eqb (narrow .clauses) 0 z) (clause-narrowed MayEnd MayEnd e c))
           (λ l. rw (ne-eqb (narrow .clauses) 0 (λ z. omega arith), lt-leb (narrow .clauses) count l) (clause-narrowed NoClause MayEnd e c)) (k .1)
       go ended is k =
-          let l = end-only MayEnd e (subst⁻¹ IsEnd is tt) in
+          let l = end-only MayEnd e (subst⁻¹ IsEnd is tt) .1 in
           let q = sym (clause-none s e l f wide room) in
           ⊎-elim (λ z. rw (eq-eqb (narrow .clauses) 0 z) (clause-none s e l f narrow room ∙ q))
           (λ n. tested (eqb (narrow .clauses) 0) (λ z. rw z (clause-none s e l f narrow room ∙ q))

@@ -30,7 +30,7 @@ within-last : (limit : ℕ) (so : List ℤ) (v : ℤ) → LiteralsWithin limit (
 within-last limit [] v h = h .0
 within-last limit (x ∷ so) v h = within-last limit so v (h .1)
 
-sized : (positive : Bool) (n : ℕ) → natAbs (withSign positive n) ≡ n
+pub sized : (positive : Bool) (n : ℕ) → natAbs (withSign positive n) ≡ n
 sized true n = refl
 sized false zero = refl
 sized false (suc n) = refl
@@ -55,7 +55,7 @@ ClosedWithin limit (closed so e) = LiteralsWithin limit so
 ClosedWithin limit (stopped r so) = ⊥
 
 -- So are the literals so far.
-abbrev HeldWithin : ℕ → Reading → Type 0
+abbrev pub HeldWithin : ℕ → Reading → Type 0
 HeldWithin limit r = LiteralsWithin limit (r .so)
 
 module _ (s : List ℕ) (narrow wide room : ℕ) where

@@ -143,3 +143,8 @@ abbrev pub TrueCountsAlike : Type 0
 TrueCountsAlike =
     (f : Format) (rule : Ends) (room : ℕ) (s : List ℕ)
     → let t = leniently f rule room s in ReachesEnd (t .answers) → CountsTrueBy f (t .opened) (t .answers) → strictly f rule room s ≡ t
+
+-- A text that is read to its end strictly has true counts. So strict takes exactly the texts that lenient takes and whose counts are true.
+abbrev pub StrictCountsTrue : Type 0
+StrictCountsTrue =
+    (f : Format) (rule : Ends) (room : ℕ) (s : List ℕ) → let t = strictly f rule room s in ReachesEnd (t .answers) → CountsTrueBy f (t .opened) (t .answers)
