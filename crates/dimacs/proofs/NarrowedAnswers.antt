@@ -27,7 +27,7 @@ AnswersTrue f limits count (refused r so ∷ l) = ⊥
 pub answers-by-counts : (f : Format) (limits : Limits) → limits .clauses ≤ largest → (l : List Answer) (count : ℕ) → ReachesEnd l → ClausesWithin f limits (handedOut l)
     → (limits .clauses ≡ 0) ⊎ (limits .clauses ≡ count + length (handedOut l)) → AnswersTrue f limits count l
 answers-by-counts f limits m [] count e w n = absurd e
-answers-by-counts f limits m (clause extra so ∷ l) count e w n = (((w .0, w .1), fewer n), answers-by-counts f limits m l (oneMore count) e (w .2) (onward n))
+answers-by-counts f limits m (clause extra so ∷ l) count e w n = ((w .0, fewer n), answers-by-counts f limits m l (oneMore count) e (w .1) (onward n))
   where
     fewer : (limits .clauses ≡ 0) ⊎ (limits .clauses ≡ count + length ((extra, so) ∷ handedOut l)) → (limits .clauses ≡ 0) ⊎ (count < limits .clauses)
     fewer (inl z) = inl z

@@ -13,6 +13,7 @@ use Rattle.dimacs.specs.Lined.{lined}
 use Rattle.dimacs.specs.Tokens.{unmoved, blanks, lines, word, uintAt, endOfLine, lineEnds}
 use Rattle.dimacs.specs.Header.{hasHeader, hasThird, formatWord, headerOf, counted, headerEnd, thirdThere, thirdCount, clauseCount, variableCount, afterP, openingOf, unlimited, limitsOf}
 use Rattle.dimacs.specs.Clauses.{Answer, clause, ended, refused, Answered, says, instead, absent, clauseAt}
+use Rattle.dimacs.specs.Leniency.{Each}
 use Rattle.dimacs.specs.Texts.{progress, oneMore, nextClause, answerBy, answerAt, finalOf, settledBy, settled, turnBy, turn, answersFrom, begin, textBy, text}
 use Rattle.dimacs.specs.declared.Format.{Format}
 use Rattle.dimacs.specs.declared.Limits.{Limits}
@@ -205,8 +206,7 @@ AnswerWithin n ended = Unit {0}
 AnswerWithin n (refused r so) = r .place ≤ n
 
 abbrev pub AllWithin : ℕ → List Answer → Type 0
-AllWithin n [] = Unit {0}
-AllWithin n (a ∷ l) = AnswerWithin n a × AllWithin n l
+AllWithin n = Each (AnswerWithin n)
 
 abbrev pub OpeningWithin : ℕ → Opening → Type 0
 OpeningWithin n (opening.Header h at) = Unit {0}

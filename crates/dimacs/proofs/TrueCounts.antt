@@ -194,7 +194,7 @@ pub counts-by-answers : (f : Format) (limits : Limits) → limits .clauses ≤ l
 counts-by-answers f limits m [] count c t = absurd t
 counts-by-answers f limits m (clause extra so ∷ l) count c t =
     let d = counts-by-answers f limits m l (oneMore count) (onward (t .0 .1)) (t .1) in
-    ((t .0 .0 .0, t .0 .0 .1, d .0), number (t .0 .1) (d .1))
+    ((t .0 .0, d .0), number (t .0 .1) (d .1))
   where
     onward : (limits .clauses ≡ 0) ⊎ (count < limits .clauses) → (limits .clauses ≡ 0) ⊎ (oneMore count ≤ limits .clauses)
     onward (inl z) = inl z

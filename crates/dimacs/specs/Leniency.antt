@@ -110,10 +110,14 @@ TextsRefused = (f : Format) (rule : Ends) (room : ℕ) (s : List ℕ) → NoLate
 abbrev pub LogsRefused : Type 0
 LogsRefused = (rule : Ends) (room : ℕ) (s : List ℕ) → NoLater (logRefusal (logStrictly rule room s)) (logRefusal (logLeniently rule room s))
 
+-- A fact of each element of a list.
+abbrev pub Each : {A : Type 0} → (A → Type 0) → List A → Type 0
+Each P [] = Unit {0}
+Each P (a ∷ rest) = P a × Each P rest
+
 -- Each literal is within a limit either way.
 abbrev pub LiteralsWithin : ℕ → List ℤ → Type 0
-LiteralsWithin limit [] = Unit {0}
-LiteralsWithin limit (v ∷ so) = (natAbs v ≤ limit) × LiteralsWithin limit so
+LiteralsWithin limit = Each (λ v. natAbs v ≤ limit)
 
 -- A group is within its limit. Other formats have none.
 abbrev pub GroupWithin : Format → ℕ → ℕ → Type 0
@@ -124,8 +128,7 @@ GroupWithin Weighted2022 limit extra = Unit {0}
 
 -- Each clause has its group and its literals within the limits.
 abbrev pub ClausesWithin : Format → Limits → List (ℕ × List ℤ) → Type 0
-ClausesWithin f limits [] = Unit {0}
-ClausesWithin f limits (c ∷ rest) = GroupWithin f (limits .groups) (c .0) × LiteralsWithin (limits .literals) (c .1) × ClausesWithin f limits rest
+ClausesWithin f limits = Each (λ c. GroupWithin f (limits .groups) (c .0) × LiteralsWithin (limits .literals) (c .1))
 
 -- The counts of a header are true of clauses: these are within the limits that it sets, and as many as it counts. A count of 0 is true of any.
 pub record CountsTrue (f : Format) (h : Header) (clauses : List (ℕ × List ℤ)) : Type 0 where

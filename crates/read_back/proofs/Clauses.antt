@@ -9,6 +9,7 @@ use borrow.Author.Tests.{eq-eqb, eqb-true}
 use lib.Dec.{eqb}
 use lib.ListN.{length, getD, length-append}
 use lib.IntN.{ℤ, pos, negsuc}
+use Rattle.dimacs.specs.Leniency.{Each}
 use Rattle.dimacs.specs.Names.{ceiling, largest, hard}
 use Rattle.dimacs.specs.Tokens.{uintAt, intAt, linebreaks}
 use Rattle.dimacs.specs.Rows.{closes, reads, row}
@@ -25,7 +26,7 @@ use Rattle.dimacs.proofs.Tests.{tested, chosen}
 use Rattle.dimacs.proofs.WordEnds.{word-no}
 use Rattle.dimacs.proofs.Rows.{row-closes, row-takes}
 use Rattle.dimacs.proofs.Literals.{closed-by}
-use Rattle.read_back.specs.ReadBack.{Each, ExtraFits, LiteralFits, ClauseFits, Clause, answerOf}
+use Rattle.read_back.specs.ReadBack.{ExtraFits, LiteralFits, ClauseFits, Clause, answerOf}
 use Rattle.read_back.proofs.Digits.{digits-write}
 use Rattle.read_back.proofs.Ends.{Ends, start, ends-past, ends-after, byte-start}
 use Rattle.read_back.proofs.Tokens.{Parts, line, uint-written, braced-written, zero-written, literal-written, line-written, after-word, Bare, spaced, linebreaks-none}

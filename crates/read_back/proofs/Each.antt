@@ -6,7 +6,7 @@ use mathlib.Core.Path.{_≡_, refl}
 use native.Mathlib.Omega.{arith}
 use lib.ListN.{length}
 use Rattle.dimacs.specs.Tokens.{run}
-use Rattle.read_back.specs.ReadBack.{Each}
+use Rattle.dimacs.specs.Leniency.{Each}
 
 -- What follows from a fact follows from it of each.
 pub each-on : {A : Type 0} {P Q : A → Type 0} → ((a : A) → P a → Q a) → (l : List A) → Each P l → Each Q l

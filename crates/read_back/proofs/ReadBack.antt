@@ -6,6 +6,7 @@ use mathlib.Core.Path.{_≡_, refl, subst⁻¹}
 use mathlib.Core.Logic.{inl, inr, ⊎-elim}
 use native.Mathlib.Omega.{arith}
 use lib.ListN.{length}
+use Rattle.dimacs.specs.Leniency.{Each}
 use Rattle.dimacs.specs.Names.{inMode, ceiling, largest}
 use Rattle.dimacs.specs.Header.{unlimited, limitsOf}
 use Rattle.dimacs.specs.Clauses.{ended}
@@ -20,7 +21,7 @@ use Rattle.dimacs.specs.declared.Ends as rule
 use Rattle.dimacs.specs.declared.Header.{Header}
 use Rattle.dimacs.specs.declared.Limits.{Limits}
 use Rattle.dimacs.proofs.Allows.{lenient-allows}
-use Rattle.read_back.specs.ReadBack.{Clause, Formula, clauseLines, writing, answerOf, opens, limitsFor, Each, ThirdFits, AnyFits, ExtraFits, ClauseFits, Readable, ReadsBack, Opened, Told, Unrefused}
+use Rattle.read_back.specs.ReadBack.{Clause, Formula, clauseLines, writing, answerOf, opens, limitsFor, ThirdFits, AnyFits, ExtraFits, ClauseFits, Readable, ReadsBack, Opened, Told, Unrefused}
 use Rattle.read_back.proofs.Each.{each-on}
 use Rattle.read_back.proofs.Ends.{Ends, start, ends-all, ends-past, start-all, start-past}
 use Rattle.read_back.proofs.Texts.{lines-open, Counts, answers-written}

@@ -8,6 +8,7 @@ use native.Mathlib.Omega.{arith}
 use borrow.Author.Tests.{le-leb, lt-leb, lt-ltb, eqb-true, eqb-false}
 use lib.Dec.{leb, eqb}
 use lib.ListN.{length, getD}
+use Rattle.dimacs.specs.Leniency.{Each}
 use Rattle.dimacs.specs.Names.{ceiling, largest}
 use Rattle.dimacs.specs.Clauses.{Answered, ended, says, instead, absent, clauseAt}
 use Rattle.dimacs.specs.Texts.{progress, oneMore, nextClause, answerAt, settled, turnBy, turn, answersFrom}
@@ -19,7 +20,7 @@ use Rattle.dimacs.specs.declared.Final.the-variants as final
 use Rattle.dimacs.proofs.Tests.{chosen}
 use Rattle.dimacs.proofs.Order.{end-permitted, clause-none}
 use Rattle.dimacs.proofs.Texts.{answers-step}
-use Rattle.read_back.specs.ReadBack.{Each, Clause, ClauseFits, answerOf, clauseLines}
+use Rattle.read_back.specs.ReadBack.{Clause, ClauseFits, answerOf, clauseLines}
 use Rattle.read_back.proofs.Ends.{Ends, start, ends-past, start-fits}
 use Rattle.read_back.proofs.Tokens.{lines-none}
 use Rattle.read_back.proofs.Clauses.{Opener, line-opens, clause-written}

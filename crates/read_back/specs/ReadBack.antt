@@ -7,6 +7,7 @@ use mathlib.Core.Path.{_≡_}
 use mathlib.Core.Logic.{_⊎_}
 use lib.ListN.{length}
 use lib.IntN.{ℤ, natAbs}
+use Rattle.dimacs.specs.Leniency.{Each}
 use Rattle.dimacs.specs.Names.{ceiling, largest}
 use Rattle.dimacs.specs.Header.{hasHeader, unlimited, limitsOf}
 use Rattle.dimacs.specs.Clauses.{Answer, clause, ended, refused}
@@ -61,11 +62,6 @@ reading f x = record { opened = opens f (x .header); answers = map answerOf (x .
 abbrev pub limitsFor : Format → Mode → Option Header → Limits
 limitsFor f m none = unlimited
 limitsFor f m (some h) = limitsOf f (m .rigor) h
-
--- A fact of each element of a list.
-abbrev pub Each : {A : Type 0} → (A → Type 0) → List A → Type 0
-Each P [] = Unit {0}
-Each P (a ∷ rest) = P a × Each P rest
 
 -- A third count is a 64-bit number, and 0 if the format has none.
 abbrev pub ThirdFits : Format → ℕ → Type 0
