@@ -1,4 +1,4 @@
--- Numbers: what a loop over digits keeps, at any width, and the cases that its answer settles. Assumes nothing.
+-- Numbers: the digits at a place, and the cases that they settle. Assumes nothing.
 use Prim.Native.Nat.{ℕ, suc, _+_, _-_, _*_, _≤_, _<_, min}
 use mathlib.Core.Bool.{Bool, true, false, cond}
 use mathlib.Core.List.{List, [], _∷_}
@@ -17,11 +17,10 @@ use Rattle.dimacs.specs.declared.Uint.{Uint}
 use Rattle.dimacs.specs.declared.Uint.the-variants as uint
 use Rattle.dimacs.specs.declared.Int.the-variants as int
 use Rattle.dimacs.proofs.Tests.{chosen}
-use Rattle.dimacs.proofs.Bytes.{is-digit, below-digit, above-digit}
-use Rattle.dimacs.proofs.Past.{past-more, past-stop, past-end}
+use Rattle.dimacs.proofs.Past.{past-stop, past-end}
 
 -- More digits make a number no smaller.
-decimal-on : (v : ℕ) (r : List ℕ) → v ≤ decimal v r
+pub decimal-on : (v : ℕ) (r : List ℕ) → v ≤ decimal v r
 unfolding decimal
 decimal-on v [] = omega arith
 decimal-on v (d ∷ r) = let h = decimal-on (v * 10 + (d - 48)) r in chosen (λ x. v ≤ x) (isDigit d) (λ _. omega arith) (λ _. omega arith)
@@ -36,55 +35,19 @@ module _ (s : List ℕ) (v i : ℕ) (h : i < length s) where
   unfolding decimal
   decimal-stop e = rw (drop-cons s i 0 h, e)
 
--- Between `at` and i stand digits, and they write v.
-pub record Read (s : List ℕ) (at i v : ℕ) : Type 0 where
-  pub on : at ≤ i
-  pub ends : past isDigit s i ≡ past isDigit s at
-  pub value : decimal v (drop i s) ≡ decimal 0 (drop at s)
-
-pub read-none : (s : List ℕ) (at : ℕ) → Read s at at 0
-read-none s at = record { on = omega arith; ends = refl; value = refl }
-
--- The digits at a place are all read: they end at e and write v.
-pub record All (s : List ℕ) (at e v : ℕ) : Type 0 where
+-- The digits at a place, after some that write w, end at e, and all of them write v.
+pub record All (w : ℕ) (s : List ℕ) (at e v : ℕ) : Type 0 where
   pub ends : past isDigit s at ≡ e
-  pub value : decimal 0 (drop at s) ≡ v
+  pub value : decimal w (drop at s) ≡ v
 
--- The digits at a place go on from i, and write a number above the bound.
-pub record Above (bound : ℕ) (s : List ℕ) (at i : ℕ) : Type 0 where
-  pub ends : past isDigit s i ≡ past isDigit s at
-  pub above : bound < decimal 0 (drop at s)
+-- Where no digit stands they end at once.
+module _ (w : ℕ) (s : List ℕ) (at : ℕ) where
+  pub none-there : at < length s → isDigit (getD s at 0) ≡ false → All w s at at w
+  none-there h n = record { ends = past-stop isDigit s at h n; value = decimal-stop s w at h n }
 
-module _ {s : List ℕ} {at i v : ℕ} (r : Read s at i v) where
-  module _ (h : i < length s) (low : 48 ≤ getD s i 0) (high : getD s i 0 ≤ 57) where
-    one-more : decimal (v * 10 + (getD s i 0 - 48)) (drop (i + 1) s) ≡ decimal v (drop i s)
-    one-more = decimal-more s v i h (is-digit (getD s i 0) low high)
-
-    pub read-more : Read s at (i + 1) (v * 10 + (getD s i 0 - 48))
-    read-more =
-        record {
-          on = omega (arith, r .on);
-          ends = past-more isDigit s i h (is-digit (getD s i 0) low high) ∙ r .ends;
-          value = one-more ∙ r .value;
-        }
-
-    -- The number is above whatever the digits up to this one are above.
-    pub read-above : (bound : ℕ) → bound < v * 10 + (getD s i 0 - 48) → Above bound s at i
-    read-above bound l =
-        record { ends = r .ends; above = omega (arith, decimal-on (v * 10 + (getD s i 0 - 48)) (drop (i + 1) s), one-more, r .value) }
-
-  read-stop : i < length s → isDigit (getD s i 0) ≡ false → All s at i v
-  read-stop h n = record { ends = sym (r .ends) ∙ past-stop isDigit s i h n; value = sym (r .value) ∙ decimal-stop s v i h n }
-
-  pub read-low : i < length s → getD s i 0 < 48 → All s at i v
-  read-low h l = read-stop h (below-digit (getD s i 0) l)
-
-  pub read-high : i < length s → 57 < getD s i 0 → All s at i v
-  read-high h l = read-stop h (above-digit (getD s i 0) l)
-
-  pub read-end : length s ≤ i → All s at i v
+  pub none-past-end : length s ≤ at → All w s at at w
   unfolding decimal
-  read-end h = record { ends = sym (r .ends) ∙ past-end isDigit s i h; value = sym (r .value) ∙ rw (drop-of-length-le s h) }
+  none-past-end h = record { ends = past-end isDigit s at h; value = rw (drop-of-length-le s h) }
 
 -- Where no digit stands the number is 0.
 pub decimal-none : (v : ℕ) (r : List ℕ) → run isDigit r ≡ 0 → decimal v r ≡ v
@@ -101,7 +64,7 @@ unfolding past
 digits-stand s at h e = omega (arith, decimal-none 0 (drop at s) (omega arith))
 
 -- The cases of `unsigned`.
-module _ {s : List ℕ} {at e v : ℕ} (a : All s at e v) where
+module _ {s : List ℕ} {at e v : ℕ} (a : All 0 s at e v) where
   pub unsigned-none : e ≡ at → unsigned s at ≡ none
   unfolding unsigned
   unsigned-none h = rw (a .ends, eq-eqb e at h)
@@ -129,7 +92,7 @@ module _ (s : List ℕ) (at : ℕ) where
   unfolding braced
   braced-no h = rw (ne-eqb (getD s at 0) 123 h)
 
-  module _ (h : getD s at 0 ≡ 123) {e v : ℕ} (a : All s (at + 1) e v) where
+  module _ (h : getD s at 0 ≡ 123) {e v : ℕ} (a : All 0 s (at + 1) e v) where
     pub braced-none : e ≡ at + 1 → braced s at ≡ none
     unfolding braced
     braced-none k = rw (eq-eqb (getD s at 0) 123 h, a .ends, eq-eqb e (at + 1) k)

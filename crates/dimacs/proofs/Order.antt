@@ -25,12 +25,12 @@ use Rattle.dimacs.specs.declared.Int.the-variants as int
 use Rattle.dimacs.specs.declared.Uint.{Uint}
 use Rattle.dimacs.specs.declared.Uint.the-variants as uint
 use Rattle.dimacs.proofs.Tests.{tested, chosen, unlike}
-use Rattle.dimacs.proofs.Bytes.{and-false}
+use Rattle.dimacs.proofs.Bytes.{and-false, below-digit, above-digit}
 use Rattle.dimacs.proofs.Loops.{after, loop-after}
 use Rattle.dimacs.proofs.Spans.{Spans, standing, moved, blanks-spans, line-end-spans, next-line-spans, newline-spans, lines-step}
 use Rattle.dimacs.proofs.Lines.{no-byte, line-end-no, newline-no}
 use Rattle.dimacs.proofs.WordEnds.{word-no}
-use Rattle.dimacs.proofs.Numbers.{read-none, read-low, read-high, read-end, unsigned-none, minus-no, braced-no, int-missing}
+use Rattle.dimacs.proofs.Numbers.{none-there, none-past-end, unsigned-none, minus-no, braced-no, int-missing}
 use Rattle.dimacs.proofs.Literals.{literals-none}
 
 -- A number stands there, whatever its size.
@@ -95,7 +95,7 @@ module _ (s : List ℕ) (limits : Limits) where
 -- At the end of the text no number stands, and no clause: where the end may come, it is answered.
 module _ (s : List ℕ) (at : ℕ) (h : length s ≤ at) where
   no-number : unsigned s at ≡ none
-  no-number = unsigned-none (read-end (read-none s at) h) refl
+  no-number = unsigned-none (none-past-end 0 s at h) refl
 
   pub end-permitted : instead (absent s MayEnd at) ≡ says ended at
   unfolding absent
@@ -137,11 +137,11 @@ OpensLine b = (b ≡ 99) ⊎ ((b ≡ 13) ⊎ (b ≡ 10))
 module _ (s : List ℕ) (at : ℕ) where
   line-no-number : OpensLine (getD s at 0) → NoNumber s at
   line-no-number (inl h) =
-      record { number = unsigned-none (read-high (read-none s at) (standing s at 98 (eq-eqb _ _ h)) (omega arith)) refl; minus = λ e. omega arith; brace = λ e. omega arith; hard = λ e. omega arith; header = λ e. omega arith }
+      record { number = unsigned-none (none-there 0 s at (standing s at 98 (eq-eqb _ _ h)) (above-digit (getD s at 0) (omega arith))) refl; minus = λ e. omega arith; brace = λ e. omega arith; hard = λ e. omega arith; header = λ e. omega arith }
   line-no-number (inr (inl h)) =
-      record { number = unsigned-none (read-low (read-none s at) (standing s at 12 (eq-eqb _ _ h)) (omega arith)) refl; minus = λ e. omega arith; brace = λ e. omega arith; hard = λ e. omega arith; header = λ e. omega arith }
+      record { number = unsigned-none (none-there 0 s at (standing s at 12 (eq-eqb _ _ h)) (below-digit (getD s at 0) (omega arith))) refl; minus = λ e. omega arith; brace = λ e. omega arith; hard = λ e. omega arith; header = λ e. omega arith }
   line-no-number (inr (inr h)) =
-      record { number = unsigned-none (read-low (read-none s at) (standing s at 9 (eq-eqb _ _ h)) (omega arith)) refl; minus = λ e. omega arith; brace = λ e. omega arith; hard = λ e. omega arith; header = λ e. omega arith }
+      record { number = unsigned-none (none-there 0 s at (standing s at 9 (eq-eqb _ _ h)) (below-digit (getD s at 0) (omega arith))) refl; minus = λ e. omega arith; brace = λ e. omega arith; hard = λ e. omega arith; header = λ e. omega arith }
 
   comment-no : (getD s at 0 ≡ 99 → ⊥) → comment s at ≡ at
   unfolding comment

@@ -68,7 +68,7 @@ parts-end : {s t r : List ℕ} → Parts t r → Ends s t → wordEnds s (start 
 parts-end {s} {t} p h = word-ends-at s (start s t) true (omega (arith, start-fits h, parts-some p)) (rw (byte-start h) (parts-stop p))
 
 module _ {s : List ℕ} (n : ℕ) (t : List ℕ) (h : Ends s (digits n ++ t)) where
-  all-written : isDigit (getD t 0 0) ≡ false → All s (start s (digits n ++ t)) (start s t) n
+  all-written : isDigit (getD t 0 0) ≡ false → All 0 s (start s (digits n ++ t)) (start s t) n
   all-written e =
       let d = digits-write n in
       let z = run-none isDigit t e in
@@ -105,7 +105,7 @@ braced-written {s} n {t} {r} p limit k h =
     let j = ends-past (digits n) (125 ∷ t) i in
     let e : start s (123 ∷ u) + 1 ≡ start s u = start-past (123 ∷ []) u h in
     let o : start s (125 ∷ t) + 1 ≡ start s t = start-past (125 ∷ []) t j in
-    let a : All s (start s (123 ∷ u) + 1) (start s (125 ∷ t)) n = rw e (all-written n (125 ∷ t) i refl) in
+    let a : All 0 s (start s (123 ∷ u) + 1) (start s (125 ∷ t)) n = rw e (all-written n (125 ∷ t) i refl) in
     let b = braced-found s (start s (123 ∷ u)) (byte-start h) a (λ z. on n (125 ∷ t) i (z ∙ e)) (byte-start j) in
     sym (by-value limit (rw (o, parts-blanks p (ends-past (125 ∷ []) t j)) at b) k (start s r) refl)
 

@@ -1,4 +1,4 @@
--- `numeral::int` meets its contract: each answer from the count past the minus. Assumes nothing.
+-- `numeral::int` meets its contract: each answer from the size past the minus. Assumes nothing.
 use Prim.Native.Nat.{ℕ, _≤_, min}
 use Rattle.dimacs.specs.Names.{ceiling}
 use Rattle.dimacs.proofs.Numbers.{UintTold, uint-told, int-missing, int-too-big, int-zero, int-beyond, int-positive, int-negative}
@@ -11,7 +11,7 @@ use Rattle.numeral.proofs.int.Tie as tie
 
 -- The call that passed the minus, from where a number's size is known.
 abbrev at-minus : tie.After-known-told → tie.After-past-minus
-at-minus c = let at-uint = c .before .before .before in at-uint .before
+at-minus c = let at-number = c .before .before .before in at-number .before
 
 abbrev size-of : tie.After-known-told → ℕ
 size-of c = c .before .n .given .0 .0
@@ -22,8 +22,8 @@ limit-of c = at-minus c .before .before .args .limit
 -- What the number past the minus tells.
 told-size : (c : tie.After-known-told)
     → UintTold (at-minus c .before .before .args .text .now) ceiling (at-minus c .past-minus .result) (uint.Value (size-of c) (c .before .n .given .0 .1 .0))
-told-size c = let at-uint = c .before .before .before in
-    uint-told _ _ _ (c .before .n .given .1) (at-uint .uint .ensures)
+told-size c = let at-number = c .before .before .before in
+    uint-told _ _ _ (c .before .n .given .1) (at-number .size .ensures)
 
 -- Not below the floor, the size is within the limit.
 within-limit : (c : tie.Else2) → let at-size = c .before .before .before in size-of at-size ≤ min (limit-of at-size) ceiling
@@ -34,11 +34,8 @@ within-limit c = let at-floor = c .before in
 past-minus-requires : tie.Need-past-minus-requires
 past-minus-requires c κs = search needs
 
-cast-uint : tie.Need-cast-uint
-cast-uint c = search needs
-
-uint-requires : tie.Need-uint-requires
-uint-requires c κs = search needs
+size-requires : tie.Need-size-requires
+size-requires c κs = search needs
 
 enum-told : tie.Need-enum-told
 enum-told c = search needs
@@ -74,12 +71,12 @@ sub-w c = let at-if1 = c .before .before .before in
     twice-fits _ (told-size (at-if1 .before) .1)
 
 returns-3 : tie.Need-returns-3
-returns-3 c = let at-uint = c .before .before in
-    int-missing _ _ _ _ (at-uint .before .past-minus .ensures) (uint-told _ _ _ (c .enum-told .given .1) (at-uint .uint .ensures))
+returns-3 c = let at-number = c .before .before in
+    int-missing _ _ _ _ (at-number .before .past-minus .ensures) (uint-told _ _ _ (c .enum-told .given .1) (at-number .size .ensures))
 
 returns-4 : tie.Need-returns-4
-returns-4 c = let at-uint = c .before .before in
-    int-too-big _ _ _ _ (at-uint .before .past-minus .ensures) (uint-told _ _ _ (c .enum-told2 .given .1) (at-uint .uint .ensures))
+returns-4 c = let at-number = c .before .before in
+    int-too-big _ _ _ _ (at-number .before .past-minus .ensures) (uint-told _ _ _ (c .enum-told2 .given .1) (at-number .size .ensures))
 
 returns-5 : tie.Need-returns-5
 returns-5 c = let at-if2 = c .before in
@@ -98,8 +95,7 @@ int-spec =
     tie.close
     (tie.spec
     past-minus-requires
-    cast-uint
-    uint-requires
+    size-requires
     enum-told
     enum-told-2
     enum-known-n
