@@ -13,7 +13,6 @@ use Rattle.dimacs.specs.declared.Instead.{Instead}
 use Rattle.dimacs.specs.declared.Instead.the-variants.{Ended, Refused}
 use Rattle.dimacs.specs.declared.Format.{Format}
 use Rattle.dimacs.specs.declared.Limits.{Limits}
-use Rattle.dimacs.specs.declared.Start.{Start}
 use Rattle.dimacs.specs.declared.Start.the-variants as start
 use Rattle.dimacs.specs.declared.EndOfLine.{EndOfLine}
 use Rattle.dimacs.specs.declared.EndOfLine.the-variants as end
@@ -44,11 +43,11 @@ pub instead-answers : (i : Instead) (old : List ℤ) {r : Answered} → r ≡ an
 instead-answers i old e = record { answer = e; buffer = rw (instead-unread i) }
 
 -- Where a clause does not begin, that is the answer.
-pub instead-at : (s : List ℕ) (limits : Limits) (f : Format) (absence : Absence) (at : ℕ) (old : List ℤ) {x : Start} {i : Instead} {r : Answered}
-    → x ≡ def.startAt s f (limits .groups) absence at → x ≡ start.Instead i → r ≡ answeredOf (def.instead i)
+pub instead-at : (s : List ℕ) (limits : Limits) (f : Format) (absence : Absence) (at : ℕ) (old : List ℤ) {i : Instead} {r : Answered}
+    → start.Instead i ≡ def.startAt s f (limits .groups) absence at → r ≡ answeredOf (def.instead i)
     → Answers (def.clauseAt s limits (length old) f absence at) old old r
 unfolding def.clauseAt
-instead-at s limits f absence at old {i = i} p q e = rw (sym p ∙ q) (instead-answers i old e)
+instead-at s limits f absence at old {i} p e = rw (sym p) (instead-answers i old e)
 
 -- Whatever closes their line, the literals stay.
 closing-read : (s : List ℕ) (extra at : ℕ) (so : List ℤ) → leftBy (def.closing s extra at so .answer) ≡ so

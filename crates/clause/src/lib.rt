@@ -2,10 +2,12 @@
 ghost use mathlib.Core.Path.{_≡_};
 ghost use lib.ListN.{length};
 ghost use Rattle.dimacs.specs.Lined.{lined};
-ghost use Rattle.dimacs.specs.Clauses.{instead, absent, isZero, literalsAfter, startBy, softBy, startIn2022, startAt, closing, clauseAt};
+ghost use Rattle.dimacs.specs.Clauses.{instead, absent, isZero, startBy, softBy, startIn2022, startAt, closing, clauseAt};
+ghost use Rattle.dimacs.specs.Tokens.{linebreaks};
 ghost use Rattle.dimacs.specs.declared.Absence.{Absence};
 ghost use Rattle.rows.specs.Answers.{ByCount};
 ghost use Rattle.clause.specs.Answers.{answeredOf, ReadsLiterals, Answers};
+ghost use Rattle.clause.specs.Begins.{startOf, BeginsAt, BeginsBy};
 use dimacs::Absence;
 use dimacs::CLAUSE_EXPECTED;
 use dimacs::EndOfLine;
@@ -22,7 +24,6 @@ use dimacs::LITERAL_EXPECTED_AFTER_LINES;
 use dimacs::LITERALS_EXPECTED;
 use dimacs::Limits;
 use dimacs::Refusal;
-use dimacs::Start;
 use dimacs::Uint;
 use dimacs::WEIGHT_TOO_BIG;
 use dimacs::WEIGHT_ZERO;
@@ -129,11 +130,23 @@ pub fn no_clause(text: &[u8], ends: Ends, at: usize) -> Answered
     instead(absent(text, ends, at, Absence::MayEnd))
 }
 
+// What stands before the literals of a clause: they begin at a place, after its weight or group, 0 if it has neither, and with what it means if no number stands
+// there; or nothing does; or what is refused by a number, at the clause's own place. It holds no refusal: so it is small, and LLVM keeps it in registers.
+enum Begin {
+    Literals {
+        extra: u64,
+        place: usize,
+        absence: Absence,
+    },
+    Nothing,
+    Refused(u8),
+}
+
 // The literals after a weight, a group or the word `h`.
-fn literals_after(text: &[u8], ends: Ends, extra: u64, next: usize) -> Start
-    ensures { λ r. ⌜ r ≡ literalsAfter (lined ends (now (text .entry))) extra next ⌝ }
+fn literals_after(text: &[u8], ends: Ends, extra: u64, next: usize) -> Begin
+    ensures { λ r. ⌜ r ≡ Begin.Literals extra (linebreaks (lined ends (now (text .entry))) next) Absence.NoLiterals ⌝ }
 {
-    Start::Literals {
+    Begin::Literals {
         extra,
         place: token::non_terminating_linebreaks(text, ends, next),
         absence: Absence::NoLiterals,
@@ -141,12 +154,12 @@ fn literals_after(text: &[u8], ends: Ends, extra: u64, next: usize) -> Start
 }
 
 // How a clause begins by its weight or group, which has a refusal number of its own where it is too big.
-fn start_by(text: &[u8], ends: Ends, at: usize, big: u8, absence: Absence, mark: Uint) -> Start
-    ensures { λ r. ⌜ r ≡ startBy (lined ends (now (text .entry))) big absence at mark ⌝ }
+fn start_by(text: &[u8], ends: Ends, big: u8, mark: Uint) -> Begin
+    ensures { λ r. ⌜ BeginsBy (lined ends (now (text .entry))) (λ absence at. startBy (lined ends (now (text .entry))) big absence at mark) r ⌝ }
 {
     match mark {
-        Uint::Missing => Start::Instead(absent(text, ends, at, absence)),
-        Uint::TooBig => Start::Instead(Instead::Refused(refuse(text, ends, big, at))),
+        Uint::Missing => Begin::Nothing,
+        Uint::TooBig => Begin::Refused(big),
         Uint::Value(extra, next) => literals_after(text, ends, extra, next),
     }
 }
@@ -162,28 +175,28 @@ fn is_zero(weight: Uint) -> bool
 }
 
 // How a soft clause of the 2022 form begins by its weight.
-fn soft_by(text: &[u8], ends: Ends, at: usize, absence: Absence, weight: Uint) -> Start
-    ensures { λ r. ⌜ r ≡ softBy (lined ends (now (text .entry))) absence at weight ⌝ }
+fn soft_by(text: &[u8], ends: Ends, weight: Uint) -> Begin
+    ensures { λ r. ⌜ BeginsBy (lined ends (now (text .entry))) (λ absence at. softBy (lined ends (now (text .entry))) absence at weight) r ⌝ }
 {
     if is_zero(weight) {
-        return Start::Instead(Instead::Refused(refuse(text, ends, WEIGHT_ZERO, at)));
+        return Begin::Refused(WEIGHT_ZERO);
     }
-    start_by(text, ends, at, WEIGHT_TOO_BIG, absence, weight)
+    start_by(text, ends, WEIGHT_TOO_BIG, weight)
 }
 
 // How a clause of the 2022 form begins.
-fn start_in_2022(text: &[u8], ends: Ends, at: usize, absence: Absence) -> Start
-    ensures { λ r. ⌜ r ≡ startIn2022 (lined ends (now (text .entry))) absence at ⌝ }
+fn start_in_2022(text: &[u8], ends: Ends, at: usize) -> Begin
+    ensures { λ r. ⌜ BeginsAt (lined ends (now (text .entry))) at (startIn2022 (lined ends (now (text .entry)))) r ⌝ }
 {
     if token::word(text, at, b"p") != at {
-        return Start::Instead(Instead::Refused(refuse(text, ends, HEADER_NOT_EXPECTED, at)));
+        return Begin::Refused(HEADER_NOT_EXPECTED);
     }
     let past = token::word(text, at, b"h");
     if past != at {
         return literals_after(text, ends, HARD, past);
     }
     let weight = numeral::uint(text, at, LARGEST);
-    soft_by(text, ends, at, absence, weight)
+    soft_by(text, ends, weight)
 }
 
 // How a clause begins in its format.
@@ -194,24 +207,24 @@ fn start_at(
     format: Format,
     groups: u64,
     absence: Absence,
-) -> Start
-    ensures { λ r. ⌜ r ≡ startAt (lined ends (now (text .entry))) format groups absence at ⌝ }
+) -> Begin
+    ensures { λ r. ⌜ startOf (lined ends (now (text .entry))) absence at r ≡ startAt (lined ends (now (text .entry))) format groups absence at ⌝ }
 {
     match format {
-        Format::Plain => Start::Literals {
+        Format::Plain => Begin::Literals {
             extra: 0,
             place: at,
             absence,
         },
         Format::Weighted => {
             let weight = numeral::uint(text, at, LARGEST);
-            start_by(text, ends, at, WEIGHT_TOO_BIG, absence, weight)
+            start_by(text, ends, WEIGHT_TOO_BIG, weight)
         }
         Format::Grouped => {
             let group = numeral::braced_uint(text, at, groups);
-            start_by(text, ends, at, GROUP_TOO_BIG, absence, group)
+            start_by(text, ends, GROUP_TOO_BIG, group)
         }
-        Format::Weighted2022 => start_in_2022(text, ends, at, absence),
+        Format::Weighted2022 => start_in_2022(text, ends, at),
     }
 }
 
@@ -247,8 +260,9 @@ pub fn clause_at(
     ensures { λ r. ⌜ Answers (clauseAt (lined ends (now (text .entry))) limits (length (now (lits .entry))) format absence at) (now (lits .entry)) (now (lits .exit)) r ⌝ }
 {
     match start_at(text, ends, at, format, limits.groups, absence) {
-        Start::Instead(i) => instead(i),
-        Start::Literals {
+        Begin::Nothing => instead(absent(text, ends, at, absence)),
+        Begin::Refused(number) => instead(Instead::Refused(refuse(text, ends, number, at))),
+        Begin::Literals {
             extra,
             place,
             absence,

@@ -7,18 +7,14 @@ use Rattle.clause.proofs.soft_by.Tie as tie
 is-zero-requires : tie.Need-is-zero-requires
 is-zero-requires c κs = search needs
 
-refuse-requires : tie.Need-refuse-requires
-refuse-requires c κs = search needs
-
 returns : tie.Need-returns
-returns c = let zero = sym (c .before .before .is-zero .ensures) ∙ c .before .if1 .taken in let r = c .refuse .ensures in rw (zero, r)
+returns c at absence = let zero = sym (c .before .is-zero .ensures) ∙ c .if1 .taken in rw zero
 
 start-by-requires : tie.Need-start-by-requires
 start-by-requires c κs = search needs
 
 returns-2 : tie.Need-returns-2
-returns-2 c = let other = sym (c .before .before .is-zero .ensures) ∙ c .before .if1 .left in rw other (c .start-by .ensures)
+returns-2 c at absence = let other = sym (c .before .before .is-zero .ensures) ∙ c .before .if1 .left in rw other (c .start-by .ensures at absence)
 
 pub soft-by-spec : {M : Type 1} → statement M
-soft-by-spec =
-    tie.close (tie.spec is-zero-requires refuse-requires returns start-by-requires returns-2)
+soft-by-spec = tie.close (tie.spec is-zero-requires returns start-by-requires returns-2)

@@ -1,4 +1,5 @@
 -- `clause::start_at` meets its contract, by the format. Assumes nothing.
+use mathlib.Core.Path.{sym}
 use Rattle.dimacs.specs.Clauses.{startAt}
 use Rattle.dimacs.proofs.LinedTokens.{uint-lined, braced-uint-lined}
 use borrow.Author.Needs.{needs}
@@ -38,15 +39,15 @@ returns c = let f = c .enum-told .given .1 in rw f
 
 returns-2 : tie.Need-returns-2
 unfolding startAt
-returns-2 c = let f = c .before .before .enum-told2 .given .1 in let u = c .before .uint .ensures in rw (f, uint-lined) (rw u at (c .start-by .ensures))
+returns-2 c = let f = c .before .before .enum-told2 .given .1 in let u = c .before .uint .ensures in rw (f, uint-lined, sym u) (c .start-by .ensures _ _)
 
 returns-3 : tie.Need-returns-3
 unfolding startAt
-returns-3 c = let f = c .before .before .enum-told3 .given .1 in let u = c .before .braced-uint .ensures in rw (f, braced-uint-lined) (rw u at (c .start-by2 .ensures))
+returns-3 c = let f = c .before .before .enum-told3 .given .1 in let u = c .before .braced-uint .ensures in rw (f, braced-uint-lined, sym u) (c .start-by2 .ensures _ _)
 
 returns-4 : tie.Need-returns-4
 unfolding startAt
-returns-4 c = let f = c .before .enum-told4 .given .1 in rw f (c .start-in-2022 .ensures)
+returns-4 c = let f = c .before .enum-told4 .given .1 in rw f (c .start-in-2022 .ensures _)
 
 pub start-at-spec : {M : Type 1} → statement M
 start-at-spec =

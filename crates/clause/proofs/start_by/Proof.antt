@@ -6,14 +6,8 @@ use Rattle.clause.proofs.start_by.Tie as tie
 enum-told : tie.Need-enum-told
 enum-told c = search needs
 
-absent-requires : tie.Need-absent-requires
-absent-requires c κs = search needs
-
 enum-told-2 : tie.Need-enum-told-2
 enum-told-2 c = search needs
-
-refuse-requires : tie.Need-refuse-requires
-refuse-requires c κs = search needs
 
 enum-known-mark : tie.Need-enum-known-mark
 enum-known-mark c = search needs
@@ -22,22 +16,20 @@ literals-after-requires : tie.Need-literals-after-requires
 literals-after-requires c κs = search needs
 
 returns : tie.Need-returns
-returns c = let m = c .before .enum-told .given .1 in let a = c .absent .ensures in rw (m, a)
+returns c at absence = let m = c .enum-told .given .1 in rw m
 
 returns-2 : tie.Need-returns-2
-returns-2 c = let m = c .before .enum-told2 .given .1 in let r = c .refuse .ensures in rw (m, r)
+returns-2 c at absence = let m = c .enum-told2 .given .1 in rw m
 
 returns-3 : tie.Need-returns-3
-returns-3 c = let m = c .before .before .mark .given .1 in rw m (c .literals-after .ensures)
+returns-3 c at absence = let m = c .before .before .mark .given .1 in let l = c .literals-after .ensures in rw (m, l)
 
 pub start-by-spec : {M : Type 1} → statement M
 start-by-spec =
     tie.close
     (tie.spec
     enum-told
-    absent-requires
     enum-told-2
-    refuse-requires
     enum-known-mark
     literals-after-requires
     returns

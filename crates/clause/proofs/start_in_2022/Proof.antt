@@ -13,15 +13,11 @@ slice-aggregate-word c = search needs
 word-requires : tie.Need-word-requires
 word-requires c κs = search needs
 
-refuse-requires : tie.Need-refuse-requires
-refuse-requires c κs = search needs
-
 returns : tie.Need-returns
 unfolding startIn2022
-returns c =
-    let p = c .before .before .word .ensures in
-    let r = c .refuse .ensures in
-    rw (p-lined, sym p, ne-eqb _ _ (c .before .if1 .taken), r)
+returns c absence =
+    let p = c .before .word .ensures in
+    rw (p-lined, sym p, ne-eqb _ _ (c .if1 .taken))
 
 slice-aggregate-word-2 : tie.Need-slice-aggregate-word-2
 slice-aggregate-word-2 c = search needs
@@ -34,12 +30,13 @@ literals-after-requires c κs = search needs
 
 returns-2 : tie.Need-returns-2
 unfolding startIn2022
-returns-2 c =
+returns-2 c absence =
     let looked = c .before .before in
     let none = looked .before .before in
     let p = none .before .word .ensures in
     let h = looked .word2 .ensures in
-    rw (p-lined, sym p, eq-eqb _ _ (none .if1 .left), h-lined, sym h, ne-eqb _ _ (c .before .if2 .taken)) (c .literals-after .ensures)
+    let l = c .literals-after .ensures in
+    rw (p-lined, sym p, eq-eqb _ _ (none .if1 .left), h-lined, sym h, ne-eqb _ _ (c .before .if2 .taken), l)
 
 uint-requires : tie.Need-uint-requires
 uint-requires c κs = search needs
@@ -49,14 +46,14 @@ soft-by-requires c κs = search needs
 
 returns-3 : tie.Need-returns-3
 unfolding startIn2022
-returns-3 c =
+returns-3 c absence =
     let soft = c .before .before in
     let looked = soft .before in
     let none = looked .before .before in
     let p = none .before .word .ensures in
     let h = looked .word2 .ensures in
     let u = c .before .uint .ensures in
-    rw (p-lined, sym p, eq-eqb _ _ (none .if1 .left), h-lined, sym h, eq-eqb _ _ (soft .if2 .left), uint-lined, sym u) (c .soft-by .ensures)
+    rw (p-lined, sym p, eq-eqb _ _ (none .if1 .left), h-lined, sym h, eq-eqb _ _ (soft .if2 .left), uint-lined, sym u) (c .soft-by .ensures _ absence)
 
 pub start-in-2022-spec : {M : Type 1} → statement M
 start-in-2022-spec =
@@ -64,7 +61,6 @@ start-in-2022-spec =
     (tie.spec
     slice-aggregate-word
     word-requires
-    refuse-requires
     returns
     slice-aggregate-word-2
     word-requires-2
