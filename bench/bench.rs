@@ -1,9 +1,9 @@
-//! Measures `latchtwig_refusal` against the reader of reader.rs, both linked into this program and called in the same way. bench/run builds it and says what it does.
+//! Measures `latchtwig_refusal` against the readers of reader.rs and tuned.rs, all linked into this program and called in the same way. bench/run builds it and says what it does.
 //!
-//!     bench check                 both readers answer the same, on every text measured and on damaged ones
-//!     bench time LAYOUT TEXT..    eleven times each, by turns: `LAYOUT TEXT BYTES LATCHTWIG RUST`, the medians in nanoseconds of the thread's time
+//!     bench check                 the readers answer the same, on every text measured and on damaged ones
+//!     bench time LAYOUT TEXT..    eleven times each, by turns: `LAYOUT TEXT BYTES LATCHTWIG RUST TUNED TOUCH`, the medians in nanoseconds of the thread's time; the last only adds up the bytes
 //!     bench text TEXT PART        prints a text of the bench with one clause for each PART of its clauses
-//!     bench once FORMAT READER    one reader, `latchtwig` or `rust`, reads standard input once, for a tool that counts instructions
+//!     bench once FORMAT READER    one reader, `latchtwig`, `rust` or `tuned`, reads standard input once, for a tool that counts instructions
 
 use std::fmt::Write as _;
 use std::hint::black_box;
@@ -17,6 +17,8 @@ extern "C" {
     fn latchtwig_place(format: u32, mode: u32, text: *const u8, length: usize) -> u64;
     fn rust_refusal(format: u32, mode: u32, text: *const u8, length: usize) -> u32;
     fn rust_place(format: u32, mode: u32, text: *const u8, length: usize) -> u64;
+    fn tuned_refusal(format: u32, mode: u32, text: *const u8, length: usize) -> u32;
+    fn tuned_place(format: u32, mode: u32, text: *const u8, length: usize) -> u64;
     fn clock_gettime(clock: i32, time: *mut Timespec) -> i32;
 }
 
@@ -82,7 +84,7 @@ const fn text(name: &'static str, format: u32, clauses: u64, width: u64, variabl
 /// The texts of the bench. The last three are of 1, 10 and 100 MB.
 const TEXTS: [Text; 11] = [
     text("plain-3", 0, 1_000_000, 3, 240_000),
-    text("plain-100", 0, 200_000, 100, 100_000),
+    text("plain-100", 0, 1_000_000, 100, 100_000),
     text("weighted-3", 1, 1_000_000, 3, 240_000),
     text("weighted-100", 1, 200_000, 100, 100_000),
     text("grouped-3", 2, 1_000_000, 3, 240_000),
@@ -134,16 +136,20 @@ fn calls(refusal: Refusal, place: Place, format: u32, mode: u32, text: &[u8]) ->
     }
 }
 
-/// The answer that both readers give.
+/// The answer that the readers give.
 fn agreed(format: u32, mode: u32, text: &[u8]) -> u32 {
     let ours = calls(latchtwig_refusal, latchtwig_place, format, mode, text);
-    let theirs = calls(rust_refusal, rust_place, format, mode, text);
-    assert_eq!(
-        ours,
-        theirs,
-        "format {format}, mode {mode}, text {:?}",
-        String::from_utf8_lossy(&text[..text.len().min(200)])
-    );
+    for theirs in [
+        calls(rust_refusal, rust_place, format, mode, text),
+        calls(tuned_refusal, tuned_place, format, mode, text),
+    ] {
+        assert_eq!(
+            ours,
+            theirs,
+            "format {format}, mode {mode}, text {:?}",
+            String::from_utf8_lossy(&text[..text.len().min(200)])
+        );
+    }
     ours.0
 }
 
@@ -209,7 +215,14 @@ fn check() {
         .filter(|&n| refusals[n] != 0)
         .map(|n| format!("{n}: {}", refusals[n]))
         .collect();
-    println!("both readers answer the same on {} texts of the bench and on {damages} damaged ones, by refusal number {}", TEXTS.len(), seen.join(", "));
+    println!("the readers answer the same on {} texts of the bench and on {damages} damaged ones, by refusal number {}", TEXTS.len(), seen.join(", "));
+}
+
+/// No reader: it touches each byte, and always answers 0.
+unsafe extern "C" fn touch(_format: u32, _mode: u32, text: *const u8, length: usize) -> u32 {
+    let text = unsafe { std::slice::from_raw_parts(text, length) };
+    black_box(text.iter().map(|&byte| u64::from(byte)).sum::<u64>());
+    0
 }
 
 fn timed(refusal: Refusal, format: u32, text: &[u8]) -> u64 {
@@ -222,33 +235,28 @@ fn timed(refusal: Refusal, format: u32, text: &[u8]) -> u64 {
 
 fn time(layout: &str, names: &[&str]) {
     const RUNS: usize = 11;
+    let readers: [Refusal; 4] = [latchtwig_refusal, rust_refusal, tuned_refusal, touch];
     for kind in TEXTS
         .iter()
         .filter(|text| names.is_empty() || names.contains(&text.name))
     {
         let text = kind.made();
-        let mut ours = Vec::new();
-        let mut theirs = Vec::new();
-        timed(latchtwig_refusal, kind.format, &text);
-        timed(rust_refusal, kind.format, &text);
+        let mut times: [Vec<u64>; 4] = Default::default();
+        for reader in readers {
+            timed(reader, kind.format, &text);
+        }
         for run in 0..RUNS {
-            if run % 2 == 0 {
-                ours.push(timed(latchtwig_refusal, kind.format, &text));
-                theirs.push(timed(rust_refusal, kind.format, &text));
-            } else {
-                theirs.push(timed(rust_refusal, kind.format, &text));
-                ours.push(timed(latchtwig_refusal, kind.format, &text));
+            for turn in 0..readers.len() {
+                let at = (run + turn) % readers.len();
+                times[at].push(timed(readers[at], kind.format, &text));
             }
         }
-        ours.sort();
-        theirs.sort();
-        println!(
-            "{layout} {} {} {} {}",
-            kind.name,
-            text.len(),
-            ours[RUNS / 2],
-            theirs[RUNS / 2]
-        );
+        print!("{layout} {} {}", kind.name, text.len());
+        for mut runs in times {
+            runs.sort();
+            print!(" {}", runs[RUNS / 2]);
+        }
+        println!();
     }
 }
 
@@ -270,7 +278,8 @@ fn once(format: u32, reader: &str) {
     let refusal = match reader {
         "latchtwig" => latchtwig_refusal as Refusal,
         "rust" => rust_refusal,
-        _ => panic!("the readers are latchtwig and rust"),
+        "tuned" => tuned_refusal,
+        _ => panic!("the readers are latchtwig, rust and tuned"),
     };
     timed(refusal, format, &text);
 }

@@ -1,8 +1,9 @@
-/* One reader reads standard input once: count READER FORMAT, with READER one of l (Latchtwig), r (Rust) and n (neither). Its status is the refusal's number.
+/* One reader reads standard input once: count READER FORMAT, with READER one of l (Latchtwig), r (Rust), t (tuned) and n (none). Its status is the refusal's number.
    It stands alone, with no C library, so that an emulator's count of x86-64 instructions is the reader's and little else. */
 typedef unsigned long size_t;
 unsigned latchtwig_refusal(unsigned format, unsigned mode, const unsigned char *text, size_t length);
 unsigned rust_refusal(unsigned format, unsigned mode, const unsigned char *text, size_t length);
+unsigned tuned_refusal(unsigned format, unsigned mode, const unsigned char *text, size_t length);
 
 /* What compilers call for blocks of memory. */
 void *memset(void *to, int byte, size_t n) {
@@ -37,6 +38,7 @@ __attribute__((used)) static void begin(long *stack) {
     while ((got = system_call(READ, 0, (long)(text + length), sizeof text - length)) > 0) length += got;
     if (reader == 'l') number = latchtwig_refusal(format, 0, text, length);
     if (reader == 'r') number = rust_refusal(format, 0, text, length);
+    if (reader == 't') number = tuned_refusal(format, 0, text, length);
     system_call(EXIT, number, 0, 0);
 }
 

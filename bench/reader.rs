@@ -1,7 +1,12 @@
-//! A reader of the four formats as one would write it in Rust with no library, for bench/run to measure the host calls against.
+//! A reader of the four formats as one would write it in Rust with no library, for bench/run to measure the host calls against. With `--cfg tuned` it reads its literals as tuned.rs does.
 //!
 //! It does what `latchtwig_refusal` and `latchtwig_place` do of formats 0 to 2 and 4: it reads every clause of a text into a buffer of 1,024 literals, applies the header's
 //! counts, and answers a refusal's number and place, or 0 and the text's length.
+
+#[cfg(tuned)]
+mod tuned;
+#[cfg(tuned)]
+use tuned::literal;
 
 const ROOM: usize = 1024;
 const CEILING: u64 = i32::MAX as u64;
@@ -134,6 +139,7 @@ fn group(text: &[u8], at: usize, limit: u64) -> Number<u64> {
     }
 }
 
+#[cfg(not(tuned))]
 fn literal(text: &[u8], at: usize, limit: u64) -> Number<i32> {
     let negative = at < text.len() && text[at] == b'-';
     let start = if negative { at + 1 } else { at };
@@ -372,13 +378,9 @@ pub fn read(format: u32, mode: u32, text: &[u8]) -> Outcome {
 ///
 /// # Safety
 /// As of `latchtwig_refusal`: `text` has `length` bytes.
-#[no_mangle]
-pub unsafe extern "C" fn rust_refusal(
-    format: u32,
-    mode: u32,
-    text: *const u8,
-    length: usize,
-) -> u32 {
+#[cfg_attr(not(tuned), export_name = "rust_refusal")]
+#[cfg_attr(tuned, export_name = "tuned_refusal")]
+pub unsafe extern "C" fn refusal(format: u32, mode: u32, text: *const u8, length: usize) -> u32 {
     read(format, mode, unsafe {
         std::slice::from_raw_parts(text, length)
     })
@@ -388,9 +390,10 @@ pub unsafe extern "C" fn rust_refusal(
 /// The refusal's place, called as `latchtwig_place` is.
 ///
 /// # Safety
-/// As of `rust_refusal`.
-#[no_mangle]
-pub unsafe extern "C" fn rust_place(format: u32, mode: u32, text: *const u8, length: usize) -> u64 {
+/// As of `refusal`.
+#[cfg_attr(not(tuned), export_name = "rust_place")]
+#[cfg_attr(tuned, export_name = "tuned_place")]
+pub unsafe extern "C" fn place(format: u32, mode: u32, text: *const u8, length: usize) -> u64 {
     read(format, mode, unsafe {
         std::slice::from_raw_parts(text, length)
     })

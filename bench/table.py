@@ -1,13 +1,13 @@
 #!/usr/bin/env python3
 """Makes tables of what bench/run measured: table.py TIMES COUNTS.
 
-A line of TIMES is LAYOUT TEXT BYTES LATCHTWIG RUST, nanoseconds; of COUNTS, MACHINE TEXT BYTES LATCHTWIG RUST, instructions."""
+A line of TIMES is LAYOUT TEXT BYTES LATCHTWIG RUST TUNED TOUCH, nanoseconds; of COUNTS, MACHINE TEXT BYTES LATCHTWIG RUST TUNED, instructions."""
 import sys
 from statistics import median
 
 NAMES = {
     "plain-3": "plain, 1,000,000 clauses of 3",
-    "plain-100": "plain, 200,000 clauses of 100",
+    "plain-100": "plain, 1,000,000 clauses of 100",
     "weighted-3": "weighted, 1,000,000 clauses of 3",
     "weighted-100": "weighted, 200,000 clauses of 100",
     "grouped-3": "grouped, 1,000,000 clauses of 3",
@@ -21,7 +21,7 @@ NAMES = {
 
 
 def rows(path):
-    """The lines of a file by their text, each as its first word, its bytes and two numbers."""
+    """The lines of a file by their text, each as its first word, its bytes and the numbers after them."""
     found = {}
     with open(path) as lines:
         for line in lines:
@@ -41,26 +41,33 @@ def table(head, body):
 def timed(found):
     for text, measured in found.items():
         size = measured[0][1]
-        ratios = sorted(ours / theirs for _, _, ours, theirs in measured)
+        ratios = sorted(ours / theirs for _, _, ours, theirs, *_ in measured)
         yield (
             NAMES[text],
             f"{size / 1e6:.1f} MB",
-            f"{median(ours for _, _, ours, _ in measured) / size:.2f}",
-            f"{median(theirs for *_, theirs in measured) / size:.2f}",
+            *(f"{median(numbers) / size:.2f}" for numbers in list(zip(*measured))[2:]),
             f"**{median(ratios):.2f}**",
             f"{ratios[0]:.2f} to {ratios[-1]:.2f}",
+            f"{median(ours / tuned for _, _, ours, _, tuned, _ in measured):.2f}",
         )
 
 
 def counted(found):
     for text, measured in found.items():
-        for machine, size, ours, theirs in measured:
-            yield (NAMES[text], machine, f"{size / 1e6:.2f} MB", f"{ours / size:.2f}", f"{theirs / size:.2f}", f"**{ours / theirs:.2f}**")
+        for machine, size, ours, theirs, tuned in measured:
+            yield (
+                NAMES[text],
+                machine,
+                f"{size / 1e6:.2f} MB",
+                *(f"{number / size:.2f}" for number in (ours, theirs, tuned)),
+                f"**{ours / theirs:.2f}**",
+                f"{ours / tuned:.2f}",
+            )
 
 
 times, counts = map(rows, sys.argv[1:])
 layouts = len(next(iter(times.values())))
 print(f"Time: nanoseconds for each byte, the median of eleven runs, then over {layouts} link layouts\n")
-table(["text", "size", "Latchtwig", "Rust", "ratio", "over the layouts"], timed(times))
+table(["text", "size", "Latchtwig", "Rust", "tuned", "touched", "to Rust", "over the layouts", "to tuned"], timed(times))
 print("Instructions for each byte, of texts of the same kind with fewer clauses\n")
-table(["text", "machine", "size", "Latchtwig", "Rust", "ratio"], counted(counts))
+table(["text", "machine", "size", "Latchtwig", "Rust", "tuned", "to Rust", "to tuned"], counted(counts))
