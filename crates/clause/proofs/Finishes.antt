@@ -13,7 +13,6 @@ use Rattle.dimacs.specs.declared.Instead.{Instead}
 use Rattle.dimacs.specs.declared.Instead.the-variants.{Ended, Refused}
 use Rattle.dimacs.specs.declared.Format.{Format}
 use Rattle.dimacs.specs.declared.Limits.{Limits}
-use Rattle.dimacs.specs.declared.Start.the-variants as start
 use Rattle.dimacs.specs.declared.EndOfLine.{EndOfLine}
 use Rattle.dimacs.specs.declared.EndOfLine.the-variants as end
 use Rattle.rows.specs.Answers.{ByCount}
@@ -44,7 +43,7 @@ instead-answers i old e = record { answer = e; buffer = rw (instead-unread i) }
 
 -- Where a clause does not begin, that is the answer.
 pub instead-at : (s : List ℕ) (limits : Limits) (f : Format) (absence : Absence) (at : ℕ) (old : List ℤ) {i : Instead} {r : Answered}
-    → start.Instead i ≡ def.startAt s f (limits .groups) absence at → r ≡ answeredOf (def.instead i)
+    → def.without i ≡ def.startAt s f (limits .groups) absence at → r ≡ answeredOf (def.instead i)
     → Answers (def.clauseAt s limits (length old) f absence at) old old r
 unfolding def.clauseAt
 instead-at s limits f absence at old {i} p e = rw (sym p) (instead-answers i old e)

@@ -12,7 +12,7 @@ use Rattle.dimacs.specs.Names.{Reason, numberOf, numbered, refusal, larg
 use Rattle.dimacs.specs.Bytes.{bytes}
 use Rattle.dimacs.specs.Tokens.{unmoved, atEnd, word, linebreaks, uintAt, bracedUintAt, endOfLine, lineEnds}
 use Rattle.dimacs.specs.Rows.{Row, ends, closes, stops, readBy, Reading, reads, row}
-use Rattle.dimacs.specs.Clauses.{Literals, nothing, closed, stopped, onRow, nextRow, literalsFrom, literals, Answer, clause, ended, refused, Answered, says, instead, absent, isZero, literalsAfter, startBy, startIn2022, startAt, closing, finish, clauseBy, clauseAt}
+use Rattle.dimacs.specs.Clauses.{Literals, nothing, closed, stopped, onRow, nextRow, literalsFrom, literals, Answer, clause, ended, refused, Answered, says, instead, absent, Start, withLiterals, without, isZero, literalsAfter, startBy, startIn2022, startAt, closing, finish, clauseBy, clauseAt}
 use Rattle.dimacs.specs.declared.Format.{Format}
 use Rattle.dimacs.specs.declared.Limits.{Limits}
 use Rattle.dimacs.specs.declared.Format.the-variants.{Plain, Weighted, Grouped, Weighted2022}
@@ -21,8 +21,6 @@ use Rattle.dimacs.specs.declared.Absence.{Absence}
 use Rattle.dimacs.specs.declared.Absence.the-variants.{MayEnd, NoClause, NoLiterals}
 use Rattle.dimacs.specs.declared.Instead.{Instead}
 use Rattle.dimacs.specs.declared.Instead.the-variants.{Ended, Refused}
-use Rattle.dimacs.specs.declared.Start.{Start}
-use Rattle.dimacs.specs.declared.Start.the-variants as start
 use Rattle.dimacs.specs.declared.Uint.{Uint}
 use Rattle.dimacs.specs.declared.Uint.the-variants as uint
 use Rattle.dimacs.specs.declared.EndOfLine.{EndOfLine}
@@ -143,8 +141,8 @@ back {s} {at} {a} h d k = go (d .answer) k
 
 -- A clause begins with literals within reach, or what is answered instead stands there.
 abbrev pub StartPlaced : List ℕ → ℕ → Start → Type 0
-StartPlaced s at (start.Literals extra e absence) = Spans s at e
-StartPlaced s at (start.Instead i) = Onward s at (instead i)
+StartPlaced s at (withLiterals extra e absence) = Spans s at e
+StartPlaced s at (without i) = Onward s at (instead i)
 
 module _ (s : List ℕ) where
   pub absent-onward : (absence : Absence) (at : ℕ) → Onward s at (instead (absent s absence at))
@@ -162,9 +160,9 @@ module _ (s : List ℕ) where
 
   -- A clause of the 2022 form begins in one of four ways, and only that by its weight hangs on what an absent number means: here on two such meanings side by side.
   pub starts-in-2022 : (P : Start → Start → Type 0) (x y : Absence) (at : ℕ)
-      → let header = start.Instead (Refused (refusal s Reason.headerNotExpected at)) in P header header
+      → let header = without (Refused (refusal s Reason.headerNotExpected at)) in P header header
       → let hardOne = literalsAfter s hard (word s (bytes "h") at) in P hardOne hardOne
-      → let zero = start.Instead (Refused (refusal s Reason.weightZero at)) in P zero zero
+      → let zero = without (Refused (refusal s Reason.weightZero at)) in P zero zero
       → let soft = startBy s (numberOf Reason.weightTooBig) in let weight = uintAt s largest at in P (soft x at weight) (soft y at weight)
       → P (startIn2022 s x at) (startIn2022 s y at)
   unfolding startIn2022
@@ -206,10 +204,10 @@ module _ (s : List ℕ) (limits : Limits) (room : ℕ) where
   clause-at-onward f absence at = go (startAt s f (limits .groups) absence at) (start-placed s f (limits .groups) absence at)
     where
       go : (x : Start) → StartPlaced s at x → Onward s at (clauseBy s limits room x)
-      go (start.Literals extra e a) h =
+      go (withLiterals extra e a) h =
           let l = literals s (limits .literals) room e in
           back h (finish s extra e a l) (finish-onward s extra e a l (literals-span s (limits .literals) room e))
-      go (start.Instead i) h = h
+      go (without i) h = h
 
 -- So does a clause, and what is read before a refusal.
 abbrev pub AnswerFits : ℕ → Answer → Type 0
@@ -241,5 +239,5 @@ module _ (s : List ℕ) (limits : Limits) (room : ℕ) where
   clause-at-fits f absence at = go (startAt s f (limits .groups) absence at)
     where
       go : (x : Start) → Fits room (clauseBy s limits room x)
-      go (start.Literals extra e a) = finish-fits extra e a (literals s (limits .literals) room e) (literals-fit s (limits .literals) room e)
-      go (start.Instead i) = instead-fits room i
+      go (withLiterals extra e a) = finish-fits extra e a (literals s (limits .literals) room e) (literals-fit s (limits .literals) room e)
+      go (without i) = instead-fits room i

@@ -8,15 +8,13 @@ use Rattle.dimacs.specs.Bytes.{bytes}
 use Rattle.dimacs.specs.Names.{Reason, inMode, numberOf, largest, hard}
 use Rattle.dimacs.specs.Tokens.{unmoved, blanks, lines, word, uintAt}
 use Rattle.dimacs.specs.Header.{openingOf}
-use Rattle.dimacs.specs.Clauses.{isZero, startBy, startIn2022}
+use Rattle.dimacs.specs.Clauses.{Start, withLiterals, without, isZero, startBy, startIn2022}
 use Rattle.dimacs.specs.Texts.{text}
 use Rattle.dimacs.specs.declared.Format.the-variants.{Weighted2022}
 use Rattle.dimacs.specs.declared.Rigor.{Rigor}
 use Rattle.dimacs.specs.declared.Ends.{Ends}
 use Rattle.dimacs.specs.declared.Opening.the-variants as opening
 use Rattle.dimacs.specs.declared.Absence.{Absence}
-use Rattle.dimacs.specs.declared.Start.{Start}
-use Rattle.dimacs.specs.declared.Start.the-variants as start
 use Rattle.dimacs.specs.declared.Uint.{Uint}
 use Rattle.dimacs.specs.declared.Uint.the-variants as uint
 use Rattle.dimacs.proofs.Tests.{tested, chosen}
@@ -31,8 +29,8 @@ modes-alike-in-2022 m n rule room s = refl
 
 -- A clause that begins so is hard or not.
 abbrev pub Hard : Bool → Start → Type 0
-Hard b (start.Literals extra at absence) = eqb extra hard ≡ b
-Hard b (start.Instead i) = Unit {0}
+Hard b (withLiterals extra at absence) = eqb extra hard ≡ b
+Hard b (without i) = Unit {0}
 
 module _ (s : List ℕ) where
   start-soft : (absence : Absence) (at : ℕ) (u : Uint) → isZero u ≡ false → Hard false (startBy s (numberOf Reason.weightTooBig) absence at u)

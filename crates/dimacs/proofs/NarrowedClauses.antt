@@ -9,7 +9,7 @@ use lib.Dec.{leb, eqb}
 use lib.ListN.{length}
 use Rattle.dimacs.specs.Names.{Reason, numberOf, refusal, largest}
 use Rattle.dimacs.specs.Tokens.{Number, none, found, upTo, braced, atEnd, blanks, lines, uintAt, endOfLine, lineEnds, bracedUintAt}
-use Rattle.dimacs.specs.Clauses.{Literals, nothing, closed, stopped, literals, Answer, clause, ended, refused, says, instead, absent, startBy, startIn2022, startAt, closing, finish, clauseBy, clauseAt}
+use Rattle.dimacs.specs.Clauses.{Literals, nothing, closed, stopped, literals, Answer, clause, ended, refused, says, instead, absent, Start, withLiterals, without, startBy, startIn2022, startAt, closing, finish, clauseBy, clauseAt}
 use Rattle.dimacs.specs.Texts.{nextClause}
 use Rattle.dimacs.specs.Leniency.{LiteralsWithin, GroupWithin}
 use Rattle.dimacs.specs.declared.Format.{Format}
@@ -19,8 +19,6 @@ use Rattle.dimacs.specs.declared.Absence.{Absence}
 use Rattle.dimacs.specs.declared.Absence.the-variants.{MayEnd, NoClause, NoLiterals}
 use Rattle.dimacs.specs.declared.Instead.{Instead}
 use Rattle.dimacs.specs.declared.Instead.the-variants.{Ended, Refused}
-use Rattle.dimacs.specs.declared.Start.{Start}
-use Rattle.dimacs.specs.declared.Start.the-variants as start
 use Rattle.dimacs.specs.declared.Uint.{Uint}
 use Rattle.dimacs.specs.declared.Uint.the-variants as uint
 use Rattle.dimacs.specs.declared.EndOfLine.{EndOfLine}
@@ -50,13 +48,13 @@ EndMay NoLiterals = ⊥
 
 -- A clause begins with literals at a place, after this weight or group.
 abbrev BeginsAt : ℕ → ℕ → Start → Type 0
-BeginsAt extra e (start.Literals extra′ e′ i) = (extra′ ≡ extra) × (e′ ≡ e)
-BeginsAt extra e (start.Instead i) = ⊥
+BeginsAt extra e (withLiterals extra′ e′ i) = (extra′ ≡ extra) × (e′ ≡ e)
+BeginsAt extra e (without i) = ⊥
 
 -- Where a clause begins under the wide limit, with a group within the narrow one, it begins so under that.
 abbrev StartNarrowed : Format → ℕ → Start → Start → Type 0
-StartNarrowed f narrow x (start.Literals extra e i) = GroupWithin f narrow extra → BeginsAt extra e x
-StartNarrowed f narrow x (start.Instead i) = Unit {0}
+StartNarrowed f narrow x (withLiterals extra e i) = GroupWithin f narrow extra → BeginsAt extra e x
+StartNarrowed f narrow x (without i) = Unit {0}
 
 no-clause-instead : (f : Format) (limits : Limits) (i : Instead) → ClauseWithin f limits (instead i .answer) → ⊥
 no-clause-instead f limits (Ended e) h = h
@@ -108,8 +106,8 @@ module _ (s : List ℕ) where
 
   -- Nothing is owed but what is where a clause would begin; or a weight or group is read, after which literals are.
   abbrev EndsBy : Absence → ℕ → Start → Type 0
-  EndsBy y at (start.Literals extra e x) = ((e ≡ at) × (x ≡ y)) ⊎ (x ≡ NoLiterals)
-  EndsBy y at (start.Instead i) = IsEnd (instead i .answer) → EndMay y × (length s ≤ at)
+  EndsBy y at (withLiterals extra e x) = ((e ≡ at) × (x ≡ y)) ⊎ (x ≡ NoLiterals)
+  EndsBy y at (without i) = IsEnd (instead i .answer) → EndMay y × (length s ≤ at)
 
   start-by-end : (big : ℕ) (y : Absence) (at : ℕ) (u : Uint) → EndsBy y at (startBy s big y at u)
   start-by-end big y at uint.Missing = absent-end y at
@@ -151,10 +149,10 @@ module _ (s : List ℕ) (narrow wide : Limits) (room : ℕ) (f : Format) where
       closes-alike extra e i j l (stopped r so) h k = absurd k
 
       go : (p q : Start) → StartNarrowed f (narrow .groups) p q → ClauseWithin f narrow (clauseBy s wide room q .answer) → clauseBy s narrow room p ≡ clauseBy s wide room q
-      go p (start.Instead i) k h = absurd (no-clause-instead f narrow i h)
-      go (start.Instead i) (start.Literals extra e j) k h =
+      go p (without i) k h = absurd (no-clause-instead f narrow i h)
+      go (without i) (withLiterals extra e j) k h =
           absurd (k (finish-within s f narrow extra e j (literals s (wide .literals) room e) h .0))
-      go (start.Literals extra′ e′ i) (start.Literals extra e j) k h =
+      go (withLiterals extra′ e′ i) (withLiterals extra e j) k h =
           let d = finish-within s f narrow extra e j (literals s (wide .literals) room e) h in
           let b = k (d .0) in
           rw (b .0, b .1)
@@ -166,8 +164,8 @@ module _ (s : List ℕ) (narrow wide : Limits) (room : ℕ) (f : Format) where
   end-only y at = go (startAt s f (wide .groups) y at) (start-end s f (wide .groups) y at)
     where
       go : (q : Start) → EndsBy s y at q → IsEnd (clauseBy s wide room q .answer) → EndMay y × (length s ≤ at)
-      go (start.Instead i) k h = k h
-      go (start.Literals extra e x) k h = by k (absent-end s x e (finish-end s extra e x (literals s (wide .literals) room e) h))
+      go (without i) k h = k h
+      go (withLiterals extra e x) k h = by k (absent-end s x e (finish-end s extra e x (literals s (wide .literals) room e) h))
         where
           by : ((e ≡ at) × (x ≡ y)) ⊎ (x ≡ NoLiterals) → EndMay x × (length s ≤ e) → EndMay y × (length s ≤ at)
           by (inl l) d = (subst EndMay (l .1) (d .0), rw (l .0) at (d .1))

@@ -13,7 +13,7 @@ use Rattle.dimacs.specs.Loop.{Step}
 use Rattle.dimacs.specs.Names.{Reason, refusal, numberOf, ceiling, largest}
 use Rattle.dimacs.specs.Tokens.{unmoved, blanks, lines, Number, none, found, upTo, upToEitherWay, unsigned, braced, minus, bracedUintAt, intAt, endOfLine, lineEnds}
 use Rattle.dimacs.specs.Rows.{Row, ends, closes, stops, readBy, Reading, reads, onInt, nextInt, row}
-use Rattle.dimacs.specs.Clauses.{Literals, nothing, closed, stopped, onRow, nextRow, literals, Answer, clause, ended, refused, says, instead, absent, startBy, startAt, closing, finish, clauseBy, clauseAt}
+use Rattle.dimacs.specs.Clauses.{Literals, nothing, closed, stopped, onRow, nextRow, literals, Answer, clause, ended, refused, says, instead, absent, Start, withLiterals, without, startBy, startAt, closing, finish, clauseBy, clauseAt}
 use Rattle.dimacs.specs.Texts.{oneMore, nextClause}
 use Rattle.dimacs.specs.Leniency.{handedOut, ReachesEnd, LiteralsWithin, GroupWithin, ClausesWithin}
 use Rattle.dimacs.specs.declared.Format.{Format}
@@ -23,8 +23,6 @@ use Rattle.dimacs.specs.declared.Absence.{Absence}
 use Rattle.dimacs.specs.declared.Absence.the-variants.{MayEnd, NoClause}
 use Rattle.dimacs.specs.declared.Instead.{Instead}
 use Rattle.dimacs.specs.declared.Instead.the-variants.{Ended, Refused}
-use Rattle.dimacs.specs.declared.Start.{Start}
-use Rattle.dimacs.specs.declared.Start.the-variants as start
 use Rattle.dimacs.specs.declared.Int.{Int}
 use Rattle.dimacs.specs.declared.Int.the-variants as int
 use Rattle.dimacs.specs.declared.EndOfLine.{EndOfLine}
@@ -57,8 +55,8 @@ LiteralsBound limit (stopped r so) = Unit {0}
 
 -- A clause that begins has its group within the limit.
 abbrev StartBound : Format → ℕ → Start → Type 0
-StartBound f groups (start.Literals extra e x) = GroupWithin f groups extra
-StartBound f groups (start.Instead i) = Unit {0}
+StartBound f groups (withLiterals extra e x) = GroupWithin f groups extra
+StartBound f groups (without i) = Unit {0}
 
 -- A clause that is answered is within the limits.
 abbrev ClauseBound : Format → Limits → Answer → Type 0
@@ -110,8 +108,8 @@ module _ (s : List ℕ) (limit room : ℕ) where
       go held (ends e so) h = by-row s limit room On held e so tt tt tt (λ _. h)
 
 any-group : (f : Format) (groups : ℕ) → ((extra : ℕ) → GroupWithin f groups extra) → (x : Start) → StartBound f groups x
-any-group f groups h (start.Literals extra e x) = h extra
-any-group f groups h (start.Instead i) = tt
+any-group f groups h (withLiterals extra e x) = h extra
+any-group f groups h (without i) = tt
 
 start-bound : (s : List ℕ) (f : Format) (groups : ℕ) (absence : Absence) (at : ℕ) → StartBound f groups (startAt s f groups absence at)
 unfolding startAt bracedUintAt
@@ -144,8 +142,8 @@ module _ (s : List ℕ) (f : Format) (limits : Limits) (room : ℕ) where
   clause-bound absence at = go (startAt s f (limits .groups) absence at) (start-bound s f (limits .groups) absence at)
     where
       go : (x : Start) → StartBound f (limits .groups) x → ClauseBound f limits (clauseBy s limits room x .answer)
-      go (start.Literals extra e x) g = finish-bound extra e x g (literals s (limits .literals) room e) (literals-bound s (limits .literals) room e)
-      go (start.Instead i) g = instead-bound i
+      go (withLiterals extra e x) g = finish-bound extra e x g (literals s (limits .literals) room e) (literals-bound s (limits .literals) room e)
+      go (without i) g = instead-bound i
 
   next-bound : (count at : ℕ) → AnswerBound f limits count (nextClause s f limits room count at .answer)
   unfolding nextClause

@@ -10,7 +10,7 @@ use lib.ListN.{length}
 use lib.IntN.{ℤ}
 use Rattle.dimacs.specs.Names.{Reason, numberOf, numbered, refusal, largest}
 use Rattle.dimacs.specs.Tokens.{atEnd, blanks, lines, uintAt, endOfLine, lineEnds, bracedUintAt}
-use Rattle.dimacs.specs.Clauses.{Literals, nothing, closed, stopped, literals, Answer, clause, ended, refused, Answered, says, instead, absent, startBy, startIn2022, startAt, closing, finish, clauseBy, clauseAt}
+use Rattle.dimacs.specs.Clauses.{Literals, nothing, closed, stopped, literals, Answer, clause, ended, refused, Answered, says, instead, absent, Start, withLiterals, without, startBy, startIn2022, startAt, closing, finish, clauseBy, clauseAt}
 use Rattle.dimacs.specs.Texts.{nextClause}
 use Rattle.dimacs.specs.declared.Format.{Format}
 use Rattle.dimacs.specs.declared.Format.the-variants.{Plain, Weighted, Grouped, Weighted2022}
@@ -18,8 +18,6 @@ use Rattle.dimacs.specs.declared.Limits.{Limits}
 use Rattle.dimacs.specs.declared.Absence.{Absence}
 use Rattle.dimacs.specs.declared.Absence.the-variants.{MayEnd, NoClause, NoLiterals}
 use Rattle.dimacs.specs.declared.Instead.the-variants.{Ended, Refused}
-use Rattle.dimacs.specs.declared.Start.{Start}
-use Rattle.dimacs.specs.declared.Start.the-variants as start
 use Rattle.dimacs.specs.declared.Uint.{Uint}
 use Rattle.dimacs.specs.declared.Uint.the-variants as uint
 use Rattle.dimacs.specs.declared.EndOfLine.{EndOfLine}
@@ -72,14 +70,14 @@ AbsenceWidened NoLiterals y = y ≡ NoLiterals
 
 -- Both clauses begin with literals at one place, after the same weight or group.
 abbrev StartsAlike : ℕ → ℕ → Absence → Start → Type 0
-StartsAlike extra e x (start.Literals extra′ e′ y) = (extra′ ≡ extra) × (e′ ≡ e) × AbsenceWidened x y
-StartsAlike extra e x (start.Instead i) = ⊥
+StartsAlike extra e x (withLiterals extra′ e′ y) = (extra′ ≡ extra) × (e′ ≡ e) × AbsenceWidened x y
+StartsAlike extra e x (without i) = ⊥
 
 -- A clause begins alike, or is refused where it begins.
 abbrev StartWidened : ℕ → Start → Start → Type 0
-StartWidened at (start.Literals extra e x) y = StartsAlike extra e x y
-StartWidened at (start.Instead (Ended e)) y = y ≡ start.Instead (Ended e)
-StartWidened at (start.Instead (Refused r)) y = r .place ≤ at
+StartWidened at (withLiterals extra e x) y = StartsAlike extra e x y
+StartWidened at (without (Ended e)) y = y ≡ without (Ended e)
+StartWidened at (without (Refused r)) y = r .place ≤ at
 
 module _ (s : List ℕ) where
   absent-widened : (x y : Absence) → AbsenceWidened x y → (at : ℕ) → Widened (instead (absent s x at)) (instead (absent s y at))
@@ -88,7 +86,7 @@ module _ (s : List ℕ) where
   absent-widened NoClause y h at = onward-past s at at (omega arith) (instead (absent s y at)) (absent-onward s y at)
   absent-widened NoLiterals y h at = rw h (answered-itself (instead (absent s NoLiterals at)))
 
-  no-start-widened : (x y : Absence) → AbsenceWidened x y → (at : ℕ) → StartWidened at (start.Instead (absent s x at)) (start.Instead (absent s y at))
+  no-start-widened : (x y : Absence) → AbsenceWidened x y → (at : ℕ) → StartWidened at (without (absent s x at)) (without (absent s y at))
   unfolding absent numbered
   no-start-widened MayEnd y h at = rw h (tested (atEnd s at) (λ e. rw e refl) (λ e. rw e (omega arith)))
   no-start-widened NoClause y h at = omega arith
@@ -142,12 +140,12 @@ module _ (s : List ℕ) {narrow wide : Limits} (a : Allows narrow wide) (room : 
       go (startAt s f (narrow .groups) x at) (startAt s f (wide .groups) y at) (start-widened s f (a .groups) x y h at) (clause-at-onward s wide room f y at)
     where
       go : (p q : Start) → StartWidened at p q → Onward s at (clauseBy s wide room q) → Widened (clauseBy s narrow room p) (clauseBy s wide room q)
-      go (start.Literals extra e i) (start.Literals extra′ e′ j) k o =
+      go (withLiterals extra e i) (withLiterals extra′ e′ j) k o =
           rw (k .0, k .1)
           (finish-widened s extra e i j (k .2) (literals s (narrow .literals) room e) (literals s (wide .literals) room e) (literals-widened s (a .literals) room e))
-      go (start.Literals extra e i) (start.Instead j) k o = absurd k
-      go (start.Instead (Ended e)) q k o = rw k refl
-      go (start.Instead (Refused r)) q k o = onward-past s (r .place) at k (clauseBy s wide room q) o
+      go (withLiterals extra e i) (without j) k o = absurd k
+      go (without (Ended e)) q k o = rw k refl
+      go (without (Refused r)) q k o = onward-past s (r .place) at k (clauseBy s wide room q) o
 
   -- The count is reached: at the end of the text both answer the end; elsewhere the narrow limits refuse a clause, and the wide ones read on.
   reached-widened : (at : ℕ) → Widened (instead (absent s MayEnd at)) (clauseAt s wide room f MayEnd at)

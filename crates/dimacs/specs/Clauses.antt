@@ -18,8 +18,6 @@ use Rattle.dimacs.specs.declared.Absence.{Absence}
 use Rattle.dimacs.specs.declared.Absence.the-variants.{MayEnd, NoClause, NoLiterals}
 use Rattle.dimacs.specs.declared.Instead.{Instead}
 use Rattle.dimacs.specs.declared.Instead.the-variants.{Ended, Refused}
-use Rattle.dimacs.specs.declared.Start.{Start}
-use Rattle.dimacs.specs.declared.Start.the-variants as start
 use Rattle.dimacs.specs.declared.Uint.{Uint}
 use Rattle.dimacs.specs.declared.Uint.the-variants as uint
 
@@ -81,6 +79,12 @@ hasHard Weighted = false
 hasHard Grouped = false
 hasHard Weighted2022 = true
 
+-- How a clause begins: with literals from a place on, after its weight or group, 0 if it has neither, and with what it means if no number stands there; or not, with
+-- what is answered instead.
+pub data Start : Type 0 where
+  withLiterals : ℕ → ℕ → Absence → Start
+  without : Instead → Start
+
 -- A weight of 0.
 abbrev pub isZero : Uint → Bool
 isZero uint.Missing = false
@@ -96,18 +100,18 @@ module _ (s : List ℕ) where
 
   -- After a weight, a group or the word `h`, line ends and comments may come; then literals must.
   abbrev pub literalsAfter : ℕ → ℕ → Start
-  literalsAfter extra next = start.Literals extra (linebreaks s next) NoLiterals
+  literalsAfter extra next = withLiterals extra (linebreaks s next) NoLiterals
 
   -- By the weight or group at a place, which has a refusal number of its own where it is too big.
   abbrev pub startBy : ℕ → Absence → ℕ → Uint → Start
-  startBy big absence at uint.Missing = start.Instead (absent absence at)
-  startBy big absence at uint.TooBig = start.Instead (Refused (numbered s big at))
+  startBy big absence at uint.Missing = without (absent absence at)
+  startBy big absence at uint.TooBig = without (Refused (numbered s big at))
   startBy big absence at (uint.Value extra next) = literalsAfter extra next
 
   -- By the weight of a soft clause of the 2022 form, which is not 0.
   abbrev pub softBy : Absence → ℕ → Uint → Start
   softBy absence at weight =
-      cond (isZero weight) (start.Instead (Refused (refusal s Reason.weightZero at))) (startBy (numberOf Reason.weightTooBig) absence at weight)
+      cond (isZero weight) (without (Refused (refusal s Reason.weightZero at))) (startBy (numberOf Reason.weightTooBig) absence at weight)
 
   -- How a clause of the 2022 form begins: a hard one with the word `h`, a soft one with its weight. The word `p` has a refusal of its own.
   unfoldable pub startIn2022 : Absence → ℕ → Start
@@ -116,11 +120,11 @@ module _ (s : List ℕ) where
       let h = word s (bytes "h") at in
       cond (unmoved at p)
       (cond (unmoved at h) (softBy absence at (uintAt s largest at)) (literalsAfter hard h))
-      (start.Instead (Refused (refusal s Reason.headerNotExpected at)))
+      (without (Refused (refusal s Reason.headerNotExpected at)))
 
   -- How a clause begins: a plain one with its first number, others with a weight or with a group up to its limit, or as in the 2022 form.
   unfoldable pub startAt : Format → ℕ → Absence → ℕ → Start
-  startAt Plain groups absence at = start.Literals 0 at absence
+  startAt Plain groups absence at = withLiterals 0 at absence
   startAt Weighted groups absence at = startBy (numberOf Reason.weightTooBig) absence at (uintAt s largest at)
   startAt Grouped groups absence at = startBy (numberOf Reason.groupTooBig) absence at (bracedUintAt s groups at)
   startAt Weighted2022 groups absence at = startIn2022 absence at
@@ -138,8 +142,8 @@ module _ (s : List ℕ) where
 module _ (s : List ℕ) (limits : Limits) (room : ℕ) where
   -- A clause by how it begins.
   abbrev pub clauseBy : Start → Answered
-  clauseBy (start.Literals extra at absence) = finish s extra at absence (literals s (limits .literals) room at)
-  clauseBy (start.Instead i) = instead i
+  clauseBy (withLiterals extra at absence) = finish s extra at absence (literals s (limits .literals) room at)
+  clauseBy (without i) = instead i
 
   -- A clause at a place where no comment and no line end stands.
   unfoldable pub clauseAt : Format → Absence → ℕ → Answered

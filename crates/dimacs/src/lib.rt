@@ -348,17 +348,6 @@ pub enum Instead {
     Refused(Refusal),
 }
 
-// How a clause begins: with literals from a place on, after its weight or group, 0 if it has neither, and with what it means if no number
-// stands there; or not, with what is answered instead.
-pub enum Start {
-    Literals {
-        extra: u64,
-        place: usize,
-        absence: Absence,
-    },
-    Instead(Instead),
-}
-
 // The answer that later calls repeat, once there is one.
 pub enum Final {
     Open,
