@@ -2,6 +2,7 @@
 """Makes tables of what bench/run measured: table.py TIMES COUNTS.
 
 A line of TIMES is LAYOUT TEXT BYTES LATCHTWIG RUST TUNED TOUCH, nanoseconds; of COUNTS, MACHINE TEXT BYTES LATCHTWIG RUST TUNED, instructions."""
+import re
 import sys
 from statistics import median
 
@@ -56,8 +57,8 @@ def counted(found):
     for text, measured in found.items():
         for machine, size, ours, theirs, tuned in measured:
             yield (
-                NAMES[text],
-                machine,
+                re.sub(r"[0-9][0-9,]* clauses", "clauses", NAMES[text]),
+                machine.replace("_", "-"),
                 f"{size / 1e6:.2f} MB",
                 *(f"{number / size:.2f}" for number in (ours, theirs, tuned)),
                 f"**{ours / theirs:.2f}**",
