@@ -1,0 +1,2 @@
+-- Answers as words.
+pub mod Words

@@ -1,0 +1,2 @@
+-- Laws about cursors as words.
+pub mod Again

@@ -1,0 +1,2 @@
+-- Cursors as words.
+pub mod Cursors

@@ -1,0 +1,2 @@
+-- Laws about the numbers of a host.
+pub mod Named

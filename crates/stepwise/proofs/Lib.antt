@@ -1,0 +1,2 @@
+-- Laws about the calls over words.
+pub mod Parts
