@@ -1,2 +1,3 @@
--- Laws about the calls over words.
+-- Laws about the calls over words, and what a host hears of them.
 pub mod Parts
+pub mod Runs
