@@ -1,0 +1,32 @@
+-- `by_number::hard_clause` meets its contract, by what the writer promises. Assumes nothing.
+use Rattle.by_number.proofs.Left.{leaves}
+use borrow.Author.Needs.{needs}
+use Rattle.by_number.proofs.hard_clause.Statement.{statement}
+use Rattle.by_number.proofs.hard_clause.Tie as tie
+
+hard-clause-line-requires : tie.Need-hard-clause-line-requires
+hard-clause-line-requires c κs = search needs
+
+written-words-requires : tie.Need-written-words-requires
+written-words-requires c κs = search needs
+
+written-kind-requires : tie.Need-written-kind-requires
+written-kind-requires c κs = search needs
+
+same-length : tie.Need-same-length
+same-length c = search needs
+
+returns : tie.Need-returns
+returns c =
+    let at-words = c .before in
+    leaves _ (at-words .before .before .before .hard-clause-line .ensures) (at-words .written-words .ensures) (c .written-kind .ensures)
+
+pub hard-clause-spec : {M : Type 1} → statement M
+hard-clause-spec =
+    tie.close
+    (tie.spec
+    hard-clause-line-requires
+    written-words-requires
+    written-kind-requires
+    same-length
+    returns)

@@ -1,0 +1,2 @@
+-- What is written by the number of a format.
+pub mod Lines
