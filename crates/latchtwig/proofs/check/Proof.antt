@@ -15,9 +15,9 @@ read-requires : tie.Need-read-requires
 read-requires c κs = search needs
 
 returns : tie.Need-returns
-returns c = let f = c .before .before .narrowed .ensures in
-    let m = c .before .narrowed2 .ensures in
-    rw (f, m) at (c .read .ensures) ∙ outcome-narrowed _ _ _
+returns c =
+    let at-mode = c .before in
+    c .read .ensures ∙ outcome-narrowed _ _ _ (at-mode .before .narrowed .ensures) (at-mode .narrowed2 .ensures)
 
 pub check-spec : {M : Type 1} → statement M
 check-spec = tie.close (tie.spec narrowed-requires narrowed-requires-2 read-requires returns)
