@@ -5,7 +5,7 @@ use mathlib.Core.Path.{_≡_, refl, ap, sym, subst, _∙_}
 use native.Mathlib.Omega.{arith}
 use lib.ListN.{length, take, getD}
 use lib.IntN.{ℤ}
-use Rattle.dimacs.specs.Names.{kindOf}
+use Rattle.dimacs.specs.Names.{logFormat, kindOf}
 use Rattle.dimacs.specs.Lined.{lined}
 use Rattle.dimacs.specs.Buffers.{laid}
 use Rattle.dimacs.specs.Clauses as def
@@ -23,10 +23,12 @@ use Rattle.clause.specs.declared.Next.the-variants as next
 use Rattle.formula.specs.Cursors.{openedAs, openedKind, opened, cursorAfter, answerFrom, stepOf}
 use Rattle.formula.specs.Whole.{callBy, call, calls, callOf}
 use Rattle.formula.specs.declared.Cursor.{Cursor}
-use Rattle.formula.proofs.Runs.{calls-from, callsOf, calls-are-answers, CallLeads, call-leads, CountFits, steps-fit}
+use Rattle.formula.proofs.Runs.{calls-from, callsOf, calls-are-answers, CallLeads, call-leads, steps-fit}
+use Rattle.sat_solver_log.specs.Answers.{logBy}
+use Rattle.sat_solver_log.proofs.Runs.{parses-fit}
 use Rattle.answer_words.specs.Words.{nextKind, nextWords}
 use Rattle.cursor_words.specs.Cursors.{heldCursor}
-use Rattle.stepwise.specs.Calls.{Opens, Nexts}
+use Rattle.stepwise.specs.Calls.{Opens, Nexts, Logs}
 use Rattle.stepwise.specs.Heard.{Heard, heard, heardOf, Run, goes, stops}
 
 -- One call, and then those from the cursor that it leaves.
@@ -113,25 +115,28 @@ heard-are-answers f m format mode s room {w} {said} {r} {l} k o run =
     let q : opened f m s ≡ openedAs format mode s = ap (λ x. openedKind x s) k in
     run-calls s room (openedAs format mode s .cursor) w l (o .cursor .again ∙ ap (λ x. x .cursor) q) run ∙ ap (map heardOf) (calls-are-answers format mode room s)
 
--- What a loop over the calls needs: a clause has no more literals than the buffer holds, and leaves fewer clauses to come.
-module _ {s before after said : List ℕ} {old new : List ℤ} {r : ℕ} (is : r ≡ 1) (n : Nexts s before after old new said r) where
-  from : Cursor
-  from = heldCursor before
+-- No answer counts more literals than the buffer holds.
+pub next-fits : {s before after said : List ℕ} {old new : List ℤ} {r : ℕ} → Nexts s before after old new said r → getD said 4 0 ≤ length old
+next-fits {s} {before} {old = old} n =
+    subst (λ (x : List ℕ). getD x 4 0 ≤ length old) (sym (n .words))
+    (steps-fit s (heldCursor before) old _ (stepOf s (length old) (heldCursor before)) (record { answer = refl; buffer = refl }) refl)
 
-  pub clause-fits : getD said 4 0 ≤ length old
-  unfolding from
-  clause-fits =
-      subst (λ (x : List ℕ). getD x 4 0 ≤ length old) (sym (n .words))
-      (steps-fit s from old _ (stepOf s (length old) from) (record { answer = refl; buffer = refl }) refl)
+pub log-fits : {m : ℕ} {s said : List ℕ} {old new : List ℤ} {r : ℕ} → Logs m s old new said r → getD said 4 0 ≤ length new
+log-fits {m} {s} {old = old} {new = new} l =
+    subst (λ (x : List ℕ). getD x 4 0 ≤ length new) (sym (l .words))
+    (parses-fit {d = logBy (kindOf logFormat m) s (length old)} {old = old} (record { answer = refl; buffer = l .buffer }) refl)
 
-  pub clause-lowers : toCome s (heldCursor after .progress .place) < toCome s (heldCursor before .progress .place)
-  unfolding from
-  clause-lowers =
-      subst (λ (x : Cursor). toCome s (x .progress .place) < toCome s (from .progress .place)) (sym (n .cursor .again))
-      (go (stepOf s (length old) from .answer) (sym is ∙ n .kind) (call-leads s (length old) from))
-    where
-      go : (x : Next) → 1 ≡ nextKind x → CallLeads s (length old) from (stepOf s (length old) from .cursor) x
-          → toCome s (stepOf s (length old) from .cursor .progress .place) < toCome s (from .progress .place)
-      go (next.Clause extra k) e h = h .1
-      go next.Ended e h = absurd (omega arith)
-      go (next.Refused q k) e h = absurd (omega arith)
+-- A clause leaves fewer to come, so that a host that calls on comes to an end.
+pub clause-lowers : {s before after said : List ℕ} {old new : List ℤ} {r : ℕ} → r ≡ 1 → Nexts s before after old new said r
+    → toCome s (heldCursor after .progress .place) < toCome s (heldCursor before .progress .place)
+clause-lowers {s} {before} {old = old} is n =
+    subst (λ (x : Cursor). toCome s (x .progress .place) < toCome s (heldCursor before .progress .place)) (sym (n .cursor .again))
+    (go (stepOf s (length old) (heldCursor before) .answer) (sym is ∙ n .kind) (call-leads s (length old) (heldCursor before)))
+  where
+    to : Cursor
+    to = stepOf s (length old) (heldCursor before) .cursor
+
+    go : (x : Next) → 1 ≡ nextKind x → CallLeads s (length old) (heldCursor before) to x → toCome s (to .progress .place) < toCome s (heldCursor before .progress .place)
+    go (next.Clause extra k) e h = h .1
+    go next.Ended e h = absurd (omega arith)
+    go (next.Refused q k) e h = absurd (omega arith)
