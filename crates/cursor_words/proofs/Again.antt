@@ -4,6 +4,7 @@ use mathlib.Core.List.{List}
 use mathlib.Core.Path.{_≡_, refl, sym, ap, _∙_}
 use native.Mathlib.Omega.{arith}
 use lib.ListN.{getD}
+use borrow.Author.Tests.{ne-eqb}
 use Rattle.dimacs.specs.declared.Format.{Format}
 use Rattle.dimacs.specs.declared.Format.the-variants.{Plain, Weighted, Grouped, Weighted2022}
 use Rattle.dimacs.specs.declared.Ends.{Ends}
@@ -51,6 +52,6 @@ pub one-cursor : {c : Cursor} {w₁ w₂ : List ℕ} → Holds c w₁ → Holds 
 one-cursor p q = p .words ∙ sym (q .words)
 
 -- Words of no format hold the cursor that repeats refusal 26.
-pub no-format : (w : List ℕ) → getD w 5 0 ≡ 0 → heldCursor w ≡ unknown .cursor
+pub no-format : (w : List ℕ) → let f = getD w 5 0 in (f ≡ 1 → ⊥) → (f ≡ 2 → ⊥) → (f ≡ 3 → ⊥) → (f ≡ 4 → ⊥) → heldCursor w ≡ unknown .cursor
 unfolding heldCursor
-no-format w e = rw e
+no-format w n₁ n₂ n₃ n₄ = let f = getD w 5 0 in rw (ne-eqb f 1 n₁, ne-eqb f 2 n₂, ne-eqb f 3 n₃, ne-eqb f 4 n₄)

@@ -5,7 +5,7 @@ use mathlib.Core.Path.{_≡_, refl, ap, sym, subst, _∙_}
 use native.Mathlib.Omega.{arith}
 use lib.ListN.{length, take, getD}
 use lib.IntN.{ℤ}
-use Rattle.dimacs.specs.Names.{logFormat, kindOf}
+use Rattle.dimacs.specs.Names.{Reason, callRefusal, logFormat, kindOf}
 use Rattle.dimacs.specs.Lined.{lined}
 use Rattle.dimacs.specs.Buffers.{laid}
 use Rattle.dimacs.specs.Clauses as def
@@ -20,7 +20,7 @@ use Rattle.dimacs.proofs.Texts.{answers-step}
 use Rattle.clause.specs.Answers.{nextOf, leftBy}
 use Rattle.clause.specs.declared.Next.{Next}
 use Rattle.clause.specs.declared.Next.the-variants as next
-use Rattle.formula.specs.Cursors.{openedAs, openedKind, opened, cursorAfter, answerFrom, stepOf}
+use Rattle.formula.specs.Cursors.{openedAs, unknown, openedKind, opened, cursorAfter, answerFrom, stepOf}
 use Rattle.formula.specs.Whole.{callBy, call, calls, callOf}
 use Rattle.formula.specs.declared.Cursor.{Cursor}
 use Rattle.formula.proofs.Runs.{calls-from, callsOf, calls-are-answers, CallLeads, call-leads, steps-fit}
@@ -114,6 +114,12 @@ pub heard-are-answers : (f m : ℕ) (format : Format) (mode : Mode) (s : List �
 heard-are-answers f m format mode s room {w} {said} {r} {l} k o run =
     let q : opened f m s ≡ openedAs format mode s = ap (λ x. openedKind x s) k in
     run-calls s room (openedAs format mode s .cursor) w l (o .cursor .again ∙ ap (λ x. x .cursor) q) run ∙ ap (map heardOf) (calls-are-answers format mode room s)
+
+-- Where words hold the cursor that repeats refusal 26, as zeros do and those of a text that was opened by unknown numbers, that refusal is heard, and nothing else.
+pub unknown-heard : (s : List ℕ) (room : ℕ) {w : List ℕ} {l : List Heard} → heldCursor w ≡ unknown .cursor → Run s room w l
+    → l ≡ heardOf (callOf (def.refused (callRefusal Reason.formatOrModeUnknown 0) [])) ∷ []
+unfolding texts.answerAt
+unknown-heard s room {w} {l} e run = run-calls s room (unknown .cursor) w l e run ∙ ap (map heardOf) (calls-step s room (unknown .cursor))
 
 -- No answer counts more literals than the buffer holds.
 pub next-fits : {s before after said : List ℕ} {old new : List ℤ} {r : ℕ} → Nexts s before after old new said r → getD said 4 0 ≤ length old
