@@ -6,7 +6,6 @@ use lib.ListN.{length}
 use lib.IntN.{ℤ}
 use Rattle.dimacs.specs.Names.{logFormat, kindOf}
 use Rattle.dimacs.specs.Buffers.{laid}
-use Rattle.dimacs.specs.Logs.{LogAnswer}
 use Rattle.clause.specs.Answers.{leftBy}
 use Rattle.log_line.specs.Answers.{logOf, logLeaves}
 use Rattle.log_line.specs.declared.Log.{Log}

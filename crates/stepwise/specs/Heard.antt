@@ -4,7 +4,6 @@ use mathlib.Core.List.{List, [], _∷_}
 use mathlib.Core.Path.{_≡_}
 use lib.ListN.{length, take, getD}
 use lib.IntN.{ℤ}
-use Rattle.clause.specs.declared.Next.{Next}
 use Rattle.formula.specs.Whole.{Call}
 use Rattle.answer_words.specs.Words.{nextKind, nextWords}
 use Rattle.stepwise.specs.Calls.{Nexts}
