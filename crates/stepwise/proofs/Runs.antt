@@ -8,11 +8,14 @@ use lib.IntN.{ℤ}
 use Rattle.dimacs.specs.Names.{Reason, callRefusal, logFormat, kindOf}
 use Rattle.dimacs.specs.Lined.{lined}
 use Rattle.dimacs.specs.Buffers.{laid}
+use Rattle.dimacs.specs.Header.{openingOf}
 use Rattle.dimacs.specs.Clauses as def
 use Rattle.dimacs.specs.Texts as texts
 use Rattle.dimacs.specs.declared.Format.{Format}
 use Rattle.dimacs.specs.declared.Mode.{Mode}
 use Rattle.dimacs.specs.declared.Kind.the-variants.{Clauses}
+use Rattle.dimacs.specs.declared.Opening.{Opening}
+use Rattle.dimacs.specs.declared.Opening.the-variants as opening
 use Rattle.dimacs.proofs.Buffer.{laid-first}
 use Rattle.dimacs.proofs.Loops.{andOn}
 use Rattle.dimacs.proofs.Clauses.{toCome}
@@ -26,7 +29,7 @@ use Rattle.formula.specs.declared.Cursor.{Cursor}
 use Rattle.formula.proofs.Runs.{calls-from, callsOf, calls-are-answers, CallLeads, call-leads, steps-fit}
 use Rattle.sat_solver_log.specs.Answers.{logBy}
 use Rattle.sat_solver_log.proofs.Runs.{parses-fit}
-use Rattle.answer_words.specs.Words.{nextKind, nextWords}
+use Rattle.answer_words.specs.Words.{openingKind, openingWords, nextKind, nextWords}
 use Rattle.cursor_words.specs.Cursors.{heldCursor}
 use Rattle.stepwise.specs.Calls.{Opens, Nexts, Logs}
 use Rattle.stepwise.specs.Heard.{Heard, heard, heardOf, Run, goes, stops}
@@ -107,6 +110,20 @@ run-calls s room c w l e (stops _ w′ said old new r h n other) =
     go p (def.clause extra so) h₁ h₂ h₃ = absurd (other h₁)
     go p def.ended h₁ h₂ h₃ = same h₁ h₂ h₃ refl
     go p (def.refused q so) h₁ h₂ h₃ = same h₁ h₂ h₃ refl
+
+-- What a host hears that opens a text by the numbers of a format and a mode is how the text opens by the definition.
+pub opening-is-answer : (f m : ℕ) (format : Format) (mode : Mode) (s : List ℕ) (room : ℕ) {w said : List ℕ} {r : ℕ} → kindOf f m ≡ Clauses format mode → Opens f m s w said r
+    → let o = texts.text format mode room s .opened in (r ≡ openingKind o) × (said ≡ openingWords o)
+unfolding openedAs texts.text
+opening-is-answer f m format mode s room k o =
+    let read = lined (mode .ends) s in
+    let q : opened f m s .opening ≡ texts.text format mode room s .opened = ap (λ x. openedKind x s .opening) k ∙ go read (openingOf read format) in
+    (o .kind ∙ ap openingKind q, o .words ∙ ap openingWords q)
+  where
+    go : (read : List ℕ) (x : Opening) → x ≡ texts.textBy format (mode .rigor) room read x .opened
+    go read (opening.Header h at) = refl
+    go read (opening.NoHeader at) = refl
+    go read (opening.Refused q) = refl
 
 -- A host that opens a text by the numbers of a format and a mode, and calls on, hears the definition's answers, or the header's refusal.
 pub heard-are-answers : (f m : ℕ) (format : Format) (mode : Mode) (s : List ℕ) (room : ℕ) {w said : List ℕ} {r : ℕ} {l : List Heard} → kindOf f m ≡ Clauses format mode
