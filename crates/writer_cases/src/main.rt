@@ -1,4 +1,4 @@
-// Makes framed calls of the writers from standard input, and prints what they write.
+// Makes framed calls of the writers for C and Rust from standard input, and prints what they write.
 //
 // A frame is format, kind and length of the output, of one, one and four bytes; three numbers of
 // eight bytes; and the count of literals and so many literals, of four bytes each; all little-endian. Kind 0 is a header, of these three counts; kind 1 is
@@ -7,11 +7,9 @@
 // Too many literals are `long`, and passed over; a frame that is cut off is `cut`, and an input that cannot be read is `unreadable`, and nothing follows them.
 ghost use Rattle.pages.specs.Pages.{Lays};
 ghost use Rattle.writer_cases.specs.Answers.{writtenLine, refusedCallLine, callLine};
+use answer_words::WRITTEN_WORDS;
 use console::Taken;
 use dimacs::FORMAT_OR_MODE_UNKNOWN;
-use dimacs::Format;
-use dimacs::Header;
-use dimacs::Kind;
 use dimacs::LARGEST;
 use dimacs::Refusal;
 use writer::Written;
@@ -99,36 +97,63 @@ fn line_length(answer: Written) -> usize {
     }
 }
 
-// The answer where a number names no format or no kind.
+// The answer where a number names no kind.
 fn unknown() -> Written {
     Written::Refused(dimacs::refuse_call(FORMAT_OR_MODE_UNKNOWN, 0))
 }
 
-// The call of a kind, made.
-fn of_kind(format: Format, call: Call, lits: &[i32], out: &mut [u8]) -> Written {
-    let kind = call.kind;
-    match kind {
-        0 => writer::write_header(
-            format,
-            Header {
-                variables: call.first,
-                clauses: call.second,
-                third: call.third,
-            },
-            out,
-        ),
-        1 => writer::write_clause(format, call.first, lits, out),
-        2 => writer::write_hard_clause(format, lits, out),
-        _ => unknown(),
+// The answer that words tell: a line where 1 is answered, else a refusal.
+fn told(kind: u32, words: [u64; WRITTEN_WORDS]) -> Written {
+    if kind == 1 {
+        return Written::Line(words[4] as usize);
     }
+    Written::Refused(Refusal {
+        number: numbers::narrowed(words[0]),
+        place: words[1] as usize,
+        line: words[2] as usize,
+        column: words[3] as usize,
+    })
 }
 
-// The call made, of the format and the kind that its numbers name.
+fn header(call: Call, out: &mut [u8]) -> Written {
+    let mut words = [0u64; WRITTEN_WORDS];
+    let kind = latchtwig::latchtwig_write_header(
+        call.format as u32,
+        call.first,
+        call.second,
+        call.third,
+        out,
+        &mut words,
+    );
+    told(kind, words)
+}
+
+fn clause(call: Call, lits: &[i32], out: &mut [u8]) -> Written {
+    let mut words = [0u64; WRITTEN_WORDS];
+    let kind = latchtwig::latchtwig_write_clause(
+        call.format as u32,
+        call.first,
+        lits,
+        out,
+        &mut words,
+    );
+    told(kind, words)
+}
+
+fn hard_clause(call: Call, lits: &[i32], out: &mut [u8]) -> Written {
+    let mut words = [0u64; WRITTEN_WORDS];
+    let kind = latchtwig::latchtwig_write_hard_clause(call.format as u32, lits, out, &mut words);
+    told(kind, words)
+}
+
+// The call made, of the kind that its number names.
 fn made(call: Call, lits: &[i32], out: &mut [u8]) -> Written {
-    match dimacs::kind_of(call.format, 0) {
-        Kind::Clauses(format, _) => of_kind(format, call, lits, out),
-        Kind::Log(_) => unknown(),
-        Kind::Unknown => unknown(),
+    let kind = call.kind;
+    match kind {
+        0 => header(call, out),
+        1 => clause(call, lits, out),
+        2 => hard_clause(call, lits, out),
+        _ => unknown(),
     }
 }
 
