@@ -15,7 +15,7 @@ Exit status: 0 if every file is accepted, 1 if one is refused. It is 2 if the wo
 cannot be written, or if `reader_cases` cannot be run; standard error then has a line that says so.
 
 65,536 bytes are all that `reader_cases` takes of a text; the host calls (host/latchtwig.h, host/rust) take any length. A clause, or a whole log, has room for 4,096
-literals here and for 1,024 in the host calls.
+literals here and for 1,024 in the host calls that check whole texts.
 """
 
 import contextlib
@@ -60,8 +60,8 @@ def complain(why):
 
 
 def words(number):
-    """What a refusal says. Where the buffer is full the table names the room of the host calls, which is another here."""
-    return re.sub(r"\d+", str(ROOM), WORDS[number]) if number == NUMBERS["BUFFER_FULL"] else WORDS[number]
+    """What a refusal says. Where the buffer is full the table speaks of the host's buffer; the one here has ROOM places."""
+    return re.sub(" than .*", f" than {ROOM}", WORDS[number]) if number == NUMBERS["BUFFER_FULL"] else WORDS[number]
 
 
 def opened(file):

@@ -57,7 +57,7 @@ impl Refusal {
             13 => "a weight up to 18446744073709551615 is expected",
             14 => "a group within its limit is expected, the header's count of groups or 18446744073709551615",
             15 => "a literal within its limit is expected, the header's count of variables or 2147483647",
-            16 => "no more than 1024 literals are expected in a clause or a log",
+            16 => "no more literals are expected in a clause or a log than the buffer has room for, 1024 where none is lent",
             17 => "SATISFIABLE, UNSATISFIABLE or UNKNOWN is expected",
             18 => "a log line of a permitted kind is expected",
             19 => "the 0 that closes the assignment is expected",
