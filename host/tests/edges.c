@@ -1,4 +1,4 @@
-/* The edges of the boundary from C: no bytes, no pointer, long texts. */
+/* The edges of the boundary from C: no bytes, no pointer, long texts, a buffer that is full, the longest lines, and the words of each number. */
 #include <inttypes.h>
 #include <stdio.h>
 #include <stdlib.h>
@@ -36,6 +36,80 @@ static size_t lines(uint8_t *text, size_t length, const char *line) {
     return at;
 }
 
+static void must(int right, const char *what) {
+    tried++;
+    if (!right) {
+        puts(what);
+        wrong++;
+    }
+}
+
+/* A number has words of its own exactly if a call can answer it. */
+static void words(void) {
+    const char *none = latchtwig_words(0);
+    must(!strcmp(none, "no refusal has this number") && !strcmp(latchtwig_words(5), "a line end is expected"), "other words");
+    for (uint64_t n = 1; n < 256; n++) {
+        int answered = n <= 19 || (n >= 26 && n <= 28) || n == 32 || n == 33;
+        must((strcmp(latchtwig_words(n), none) != 0) == answered, "a number that is not answered has words, or one that is has none");
+    }
+    must(!strcmp(latchtwig_words(UINT64_MAX), none) && !strcmp(latchtwig_words(((uint64_t)1 << 32) + 5), none), "a number beyond all has words");
+}
+
+/* A clause that does not fit is read from a copy of the cursor into a larger buffer, and reading goes on. */
+static void larger_buffer(void) {
+    static const uint8_t text[] = "1 2 3 0\n4 0\n";
+    size_t length = sizeof text - 1;
+    int32_t literals[3] = {7, 7, 7};
+    struct latchtwig_cursor cursor, copy;
+    struct latchtwig_opening opening;
+    struct latchtwig_clause a;
+    must(latchtwig_open(LATCHTWIG_PLAIN, LATCHTWIG_STRICT, text, length, &cursor, &opening) == LATCHTWIG_NO_HEADER, "no header is expected");
+    copy = cursor;
+    must(latchtwig_next(text, length, &cursor, literals, 2, &a) == LATCHTWIG_REFUSED && a.number == 16 && a.place == 4 && a.line == 1 && a.column == 5 && a.count == 2 && literals[0] == 1 && literals[1] == 2 && literals[2] == 7, "a buffer of two");
+    must(latchtwig_next(text, length, &copy, literals, 3, &a) == LATCHTWIG_CLAUSE && a.count == 3 && literals[2] == 3, "a buffer of three");
+    must(latchtwig_next(text, length, &copy, literals, 3, &a) == LATCHTWIG_CLAUSE && a.count == 1 && literals[0] == 4 && literals[1] == 2, "the clause after it");
+    must(latchtwig_next(text, length, &copy, literals, 3, &a) == LATCHTWIG_END, "the end");
+}
+
+/* The number that a clause or a log comes to with so much room. */
+static uint64_t first_number(uint32_t format, const uint8_t *text, size_t length, size_t room) {
+    static int32_t literals[100];
+    struct latchtwig_cursor cursor;
+    struct latchtwig_opening opening;
+    struct latchtwig_clause a;
+    struct latchtwig_solution s;
+    if (format == LATCHTWIG_LOG) return latchtwig_log(LATCHTWIG_STRICT, text, length, literals, room, &s), s.number;
+    latchtwig_open(format, LATCHTWIG_STRICT, text, length, &cursor, &opening);
+    return latchtwig_next(text, length, &cursor, literals, room, &a), a.number;
+}
+
+/* A buffer of length / 2 + 1 literals is never full, however close the literals stand. In a plain text half the length is too little. */
+static void never_full(void) {
+    static const char *const leads[] = {"", "5 ", "{1}", "v ", "h "};
+    uint8_t text[100];
+    for (uint32_t format = LATCHTWIG_PLAIN; format <= LATCHTWIG_WEIGHTED_2022; format++) {
+        size_t from = strlen(leads[format]);
+        memcpy(text, leads[format], from);
+        for (size_t length = from; length < sizeof text; length++) {
+            must(first_number(format, text, length, length / 2 + 1) != 16, "a buffer of length / 2 + 1 literals is full");
+            if (format == LATCHTWIG_PLAIN && length % 2) must(first_number(format, text, length, length / 2) == 16, "a shorter one is not full");
+            text[length] = (length - from) % 2 ? ' ' : '1';
+        }
+    }
+}
+
+/* The longest header takes 60 bytes, the longest clause 25 and 12 for each literal. */
+static void longest_lines(void) {
+    static const int32_t literals[3] = {-2147483647, -2147483647, -2147483647};
+    uint8_t output[61];
+    struct latchtwig_line a;
+    for (size_t length = 59; length <= 61; length++) must((latchtwig_write_header(LATCHTWIG_GROUPED, 2147483647, UINT64_MAX, UINT64_MAX, output, length, &a) == LATCHTWIG_LINE ? a.length : a.number) == (length < 60 ? 28 : 60), "the longest header");
+    for (size_t k = 0; k <= 3; k++) {
+        must(latchtwig_write_clause(LATCHTWIG_GROUPED, UINT64_MAX, literals, k, output, 25 + 12 * k, &a) == LATCHTWIG_LINE && a.length == 25 + 12 * k, "the longest clause");
+        must(latchtwig_write_clause(LATCHTWIG_GROUPED, UINT64_MAX, literals, k, output, 24 + 12 * k, &a) == LATCHTWIG_REFUSED && a.number == 28, "an output too short for it");
+    }
+}
+
 int main(void) {
     static const char *const repeated[] = {"1 -2 3 0\n", "5 1 -2 3 0\n", "{7} 1 -2 3 0\n", "c 1 -2 3 0\n", "h 1 -2 3 0\n"};
     uint8_t *text = malloc(MEGABYTE + 1);
@@ -71,6 +145,10 @@ int main(void) {
         expect("a megabyte of zero bytes", LATCHTWIG_PLAIN, mode, text, MEGABYTE, 9, 0);
     }
     free(text);
-    printf("edges: %d calls, %d wrong\n", tried, wrong);
+    words();
+    larger_buffer();
+    never_full();
+    longest_lines();
+    printf("edges: %d tries, %d wrong\n", tried, wrong);
     return wrong != 0;
 }
