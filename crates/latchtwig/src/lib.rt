@@ -1,6 +1,6 @@
 // The calls for callers in other languages: whole texts checked by number, texts read clause by clause, logs read, and headers and clauses written.
 //
-// Each goes by the C calling convention, with formats and modes by number, and answers and cursors as words. host/latchtwig.h declares those that check for C, host/rust for Rust.
+// Each goes by the C calling convention, with formats and modes by number, and answers and cursors as words. host/latchtwig.h declares them for C, host/rust for Rust.
 ghost use mathlib.Core.Path.{_≡_};
 ghost use lib.ListN.{length};
 ghost use Rattle.dimacs.specs.Names.{logFormat, kindOf};
