@@ -49,11 +49,12 @@ pub fn run(words: Vec<OsString>) -> ExitCode {
     }))
 }
 
-/// Takes each file in turn, and answers the exit status. An error is one of standard output.
+/// Takes each file in turn, and answers the exit status. What is told of a file is not held back while the next is read. An error is one of standard output.
 fn all(work: &Work, output: &mut Output) -> io::Result<u8> {
     let mut status = ACCEPTED;
     for file in &work.files {
         status = status.max(one(work, file, output)?);
+        output.flush()?;
     }
     Ok(status)
 }
