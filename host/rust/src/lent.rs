@@ -85,7 +85,7 @@ pub enum Log {
 /// Where to go on in a text. The default is no cursor of any text, and answers refusal 26.
 ///
 /// It is a value: a copy of it asks for the same clause again, as with a larger buffer after refusal 16. It goes with the text that was opened. With another text a call is safe, and answers what stands
-/// there from the same place on.
+/// there from the same place on; a refusal's place may then be past that text's end.
 #[derive(Clone, Copy, Debug, Default, PartialEq, Eq, Hash)]
 pub struct Cursor([u64; calls::CURSOR]);
 

@@ -21,7 +21,7 @@ pub struct Refusal {
 }
 
 impl Refusal {
-    /// The refusal in the first four words of an answer. A place is within the text, or within the literals, so that it fits.
+    /// The refusal in the first four words of an answer. They fit, as the library is for machines of 64 bits.
     pub(crate) fn of(words: &[u64]) -> Self {
         Refusal {
             number: words[0] as u32,
