@@ -37,23 +37,51 @@ def bad_words(folder):
 
 
 def formats(folder):
-    for format, mode, text, number in (
-        ("weighted", "strict", b"5 1 0\n", None),
+    """What was read of a good order is told, and of a bad one why it is refused. Clauses and logs may be as long as they like."""
+    many = b" 7" * 3000 + b" 0\n"
+    for format, mode, text, read in (
+        ("weighted", "strict", b"5 1 0\n", "1 clause"),
         ("grouped", "strict", b"p gcnf 1 1 1\n{2} 1 0\n", 14),
-        ("grouped", "lenient", b"p gcnf 1 1 1\n{2} 1 0\n", None),
-        ("log", "strict", b"s SATISFIABLE\nv 1 0\n", None),
+        ("grouped", "lenient", b"p gcnf 1 1 1\n{2} 1 0\n", "1 clause"),
+        ("log", "strict", b"s SATISFIABLE\nv 1 0\n", "satisfiable, 1 literal"),
+        ("log", "strict", b"s UNSATISFIABLE\n", "unsatisfiable, 0 literals"),
+        ("log", "strict", b"c crashed\n", "no verdict, 0 literals"),
+        ("log", "strict", b"s UNKNOWN\nv" + many, "unknown, 3000 literals"),
         ("log", "lenient", b"v 1\n", 19),
+        ("plain", "strict", b"", "0 clauses"),
+        ("plain", "strict", b"1 0\n" + many + b"0\n", "3 clauses"),
         ("plain", "strict", b"1 0\r2 0\r", 5),
-        ("plain", "strict-cr", b"1 0\r2 0\r", None),
-        ("log", "lenient-cr", b"junk\rs UNKNOWN\r", None),
-        ("weighted2022", "strict", b"h 1 0\n5 -1 0\n", None),
+        ("plain", "strict-cr", b"1 0\r2 0\r", "2 clauses"),
+        ("log", "lenient-cr", b"junk\rs UNKNOWN\r", "unknown, 0 literals"),
+        ("weighted2022", "strict", b"h 1 0\n5 -1 0\n", "2 clauses"),
         ("weighted2022", "lenient", b"p wcnf 1 1 1\n", 33),
     ):
-        name = f"{format}-{mode}"
-        write(f"{folder}/{name}", text)
+        write(f"{folder}/one", text)
         status, said, _ = run(format, mode, folder)
-        wanted = f"accepted {name}\n" if number is None else f"refused {name}: refusal {number} at line "
-        expect(status == 0 and said.startswith(wanted), f"{format} {mode}: {status} {said}")
+        told, _, why = said.rstrip("\n").partition(": ")
+        accepted = isinstance(read, str)
+        right = why == read if accepted else why.startswith(f"refusal {read} at line ")
+        expect(status == 0 and told.split()[0] == ("accepted" if accepted else "refused") and right, f"{format} {mode}: {status} {said}")
+
+
+def reasons(folder):
+    """A reason has number, place, line, column, words, and the word that was found, on a line of its own, if there is one."""
+    for mode, text, spot, words, found in (
+        ("strict", b"1 0\n2 0 3 0\n", (5, 8, 2, 5), "a line end is expected", "3"),
+        ("strict", b"1 0\n2", (6, 5, 2, 2), "a literal or 0 is expected", None),
+        ("strict", b"1 'a\"\\\xff\0 0\n", (6, 2, 1, 3), "a literal or 0 is expected", "\\'a\\\"\\\\\\xff\\x00"),
+        ("strict", b"1 0\rodd\n", (5, 3, 1, 4), "a line end is expected", "\\rodd"),
+        ("strict-cr", b"1 0\rodd\n", (9, 4, 2, 1), "a clause, a comment, a line end or a permitted end of the text is expected", "odd"),
+        ("strict", b"p cnf 1\n", (3, 7, 1, 8), "the count of clauses is expected", None),
+        ("strict-cr", b"p cnf 1\r1 0\r", (3, 7, 1, 8), "the count of clauses is expected", None),
+    ):
+        write(f"{folder}/one", text)
+        run("plain", mode, folder)
+        with open(f"{folder}/refused/one.reason") as file:
+            told = file.read()
+        wanted = "number %d\nplace %d\nline %d\ncolumn %d\n" % spot + f"reason {words}\n" + (f"found {found}\n" if found else "")
+        expect(told == wanted, f"the reason of {text}: {told}, not {wanted}")
+        os.remove(f"{folder}/refused/one")
 
 
 def names(folder):
@@ -80,7 +108,7 @@ def names(folder):
     left = sorted(os.listdir(folder))
     expect(left == [".hidden", "accepted", "folder", "link", "link-to-folder", "pipe", "refused", "socket", "x.reason"], f"{left}")
     with open(f"{folder}/refused/b.reason") as file:
-        expect(file.read() == "number 5\nplace 4\nline 1\ncolumn 5\nreason a line end is expected\n", "the reason")
+        expect(file.read() == "number 5\nplace 4\nline 1\ncolumn 5\nreason a line end is expected\nfound 2\n", "the reason")
     expect(sorted(os.listdir(os.fsencode(folder) + b"/refused")) == [b"b", b"b.reason", b"\xff", b"\xff.reason"], "refused")
 
 
@@ -126,8 +154,9 @@ def header(folder):
     ):
         write(f"{folder}/one", text)
         status, said, _ = run("--header", format, mode, folder)
-        told, _, reason = said.rstrip("\n").partition(": ")
-        expect(status == 0 and told.split()[0] == ("refused" if why else "accepted") and reason == (why or ""), f"{format} {mode} {text}: {status} {said}")
+        told, _, rest = said.rstrip("\n").partition(": ")
+        right = rest == why if why else rest.endswith((" clause", " clauses"))
+        expect(status == 0 and told.split()[0] == ("refused" if why else "accepted") and right, f"{format} {mode} {text}: {status} {said}")
     with open(f"{folder}/refused/one.reason") as file:
         expect(file.read() == f"reason {none}\n", "the reason of no header")
 
@@ -142,7 +171,7 @@ def two_at_once(folder):
     expect(os.listdir(folder) == ["order"], "something was done beside another queue")
     os.close(lock)
     status, said, told = run("plain", "strict", folder)
-    expect((status, said, told) == (0, "accepted order\n", ""), f"one again: {status} {said} {told}")
+    expect((status, said, told) == (0, "accepted order: 1 clause\n", ""), f"one again: {status} {said} {told}")
 
 
 def again(folder):
@@ -158,10 +187,10 @@ def again(folder):
 
 
 def main():
-    for test in (bad_words, formats, names, long_names, header, two_at_once, again):
+    for test in (bad_words, formats, reasons, names, long_names, header, two_at_once, again):
         with tempfile.TemporaryDirectory() as folder:
             test(folder)
-    print("queue: words, formats, names, long names, headers, two at once and names again, as they should be")
+    print("queue: words, formats, reasons, names, long names, headers, two at once and names again, as they should be")
 
 
 main()

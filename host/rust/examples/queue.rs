@@ -1,5 +1,5 @@
-//! Takes a folder of order texts in turn. A good order moves to `accepted/`; a bad one moves to `refused/`, with the reason beside it in NAME.reason. A bad order
-//! never holds up the rest.
+//! Takes a folder of order texts in turn. A good order moves to `accepted/`; a bad one moves to `refused/`, with the reason beside it in NAME.reason: the number of the refusal, its place, line and
+//! column, what is expected there, and the word that was found. A bad order never holds up the rest.
 //!
 //!     queue [--header] FORMAT MODE FOLDER
 //!
@@ -10,6 +10,8 @@
 //! comment, as a text with such lines is in the other modes if it begins with a comment; and a header's count of 0 leaves it open how much follows. With `--header` such texts are refused too. Logs
 //! and texts of the 2022 form have no header.
 //!
+//! A clause, or a log, may have as many literals as it likes. A text of more than 268,435,456 bytes is not read, and stays.
+//!
 //! The program takes the orders that are there when it starts, and stops. An order that cannot be read or moved stays and is named on standard error, as is a link, a
 //! pipe or whatever else is no file. Exit status: 0 if nothing stayed, 1 if something did, 2 if the words are wrong or the folder cannot be used.
 //!
@@ -19,7 +21,9 @@
 //!
 //! A name that is taken gets a number. One that is then too long for the folder, or for a reason beside it, is cut, and ends in `~`.
 
-use latchtwig::{check, Format, Mode, Refusal};
+use latchtwig::formula::{Header, Parser};
+use latchtwig::sat_solver_log::{parse_log, Verdict};
+use latchtwig::{lent, Format, Mode, Refusal};
 use std::ffi::{OsStr, OsString};
 use std::fmt;
 use std::fs::{self, File, FileType};
@@ -103,16 +107,16 @@ struct Queue {
     folder: PathBuf,
 }
 
-/// Why an order is refused: by the reader, or for its header.
+/// Why an order is refused: by the reader, with the word that it stopped at, or for its header.
 enum Why {
-    Text(Refusal),
+    Text { refusal: Refusal, found: String },
     Header(&'static str),
 }
 
 impl fmt::Display for Why {
     fn fmt(&self, f: &mut fmt::Formatter<'_>) -> fmt::Result {
         match self {
-            Why::Text(refusal) => refusal.fmt(f),
+            Why::Text { refusal, .. } => refusal.fmt(f),
             Why::Header(words) => words.fmt(f),
         }
     }
@@ -179,11 +183,11 @@ impl Queue {
         }
         let order = self.folder.join(name);
         match self.judged(&whole(&order)?) {
-            Ok(()) => {
+            Ok(read) => {
                 let place = self.accepted();
                 let free = free_name(&place, name, LONGEST_NAME)?;
                 fs::rename(&order, place.join(&free))?;
-                Ok(format!("accepted {}", moved(name, &free)))
+                Ok(format!("accepted {}: {read}", moved(name, &free)))
             }
             Err(why) => {
                 let place = self.refused();
@@ -195,36 +199,64 @@ impl Queue {
         }
     }
 
-    fn judged(&self, text: &[u8]) -> Result<(), Why> {
-        check(self.format, self.mode, text).map_err(Why::Text)?;
+    /// Reads a whole text, and answers what was read.
+    fn judged(&self, text: &[u8]) -> Result<String, Why> {
+        let read = match self.format {
+            Format::Log => self.log(text),
+            _ => self.formula(text),
+        };
+        let (header, said) = read.map_err(|refusal| self.stopped(text, refusal))?;
         if self.header {
-            header_counts(self.format, self.mode, text).map_err(Why::Header)?;
+            counted_header(self.format, header).map_err(Why::Header)?;
         }
-        Ok(())
+        Ok(said)
+    }
+
+    /// The header of a formula, and how many clauses it has.
+    fn formula(&self, text: &[u8]) -> Result<(Option<Header>, String), Refusal> {
+        let mut parser = Parser::new(self.format, text, self.mode.into())?;
+        let mut clauses = 0;
+        while parser.next_clause()?.is_some() {
+            clauses += 1;
+        }
+        Ok((parser.header(), counted(clauses, "clause")))
+    }
+
+    /// What a log says, and how many literals it has. It has no header.
+    fn log(&self, text: &[u8]) -> Result<(Option<Header>, String), Refusal> {
+        let log = parse_log(text, self.mode.into())?;
+        let verdict = match log.verdict {
+            Verdict::Satisfiable => "satisfiable",
+            Verdict::Unsatisfiable => "unsatisfiable",
+            Verdict::Unknown => "unknown",
+            Verdict::Missing => "no verdict",
+        };
+        let literals = counted(log.assignment.len(), "literal");
+        Ok((None, format!("{verdict}, {literals}")))
+    }
+
+    /// A refusal with the word that was found at its place, on one line whatever its bytes are.
+    fn stopped(&self, text: &[u8], refusal: Refusal) -> Why {
+        let word = lent::stopped_at(self.mode as u32, text, refusal.place);
+        let found = word.escape_ascii().to_string();
+        Why::Text { refusal, found }
     }
 }
 
-/// Whether a text that was read to its end has a header, and that no count of 0. The reader itself tells where a header is: in another format it refuses a text that
-/// has one, and no other, with 1, at the word after `p`. The header was read, so the words from there on are the format's, and then its counts.
-fn header_counts(format: Format, mode: Mode, text: &[u8]) -> Result<(), &'static str> {
-    let (another, counts) = match format {
-        Format::Plain => (Format::Grouped, 2),
-        Format::Weighted => (Format::Plain, 2),
-        Format::Grouped => (Format::Plain, 3),
-        Format::Log | Format::Weighted2022 => return Ok(()),
-    };
-    let place = match check(another, mode, text) {
-        Err(Refusal {
-            number: 1, place, ..
-        }) => place,
-        _ => return Err("a header is expected"),
-    };
-    let words = text[place..].split(|byte| b" \t\r\n".contains(byte));
-    let mut counts = words.filter(|word| !word.is_empty()).skip(1).take(counts);
-    if counts.any(|count| count.iter().all(|&digit| digit == b'0')) {
+/// Whether there is a header, and no count of it is 0. The top weight is no count.
+fn counted_header(format: Format, header: Option<Header>) -> Result<(), &'static str> {
+    let header = header.ok_or("a header is expected")?;
+    let groups_open = format == Format::Grouped && header.third == 0;
+    if header.variables == 0 || header.clauses == 0 || groups_open {
         return Err("a header with no count of 0 is expected");
     }
     Ok(())
+}
+
+/// A number of things, as in `1 clause` and `2 clauses`.
+fn counted(number: usize, thing: &str) -> String {
+    let end = if number == 1 { "" } else { "s" };
+    format!("{number} {thing}{end}")
 }
 
 extern "C" {
@@ -310,15 +342,20 @@ fn write_reason(place: &Path, name: &OsStr, why: &Why) -> io::Result<()> {
     let unfinished = place.join(UNFINISHED);
     let mut file = File::create(&unfinished)?;
     match why {
-        Why::Text(refusal) => writeln!(
-            file,
-            "number {}\nplace {}\nline {}\ncolumn {}\nreason {}",
-            refusal.number,
-            refusal.place,
-            refusal.line,
-            refusal.column,
-            refusal.words()
-        )?,
+        Why::Text { refusal, found } => {
+            writeln!(
+                file,
+                "number {}\nplace {}\nline {}\ncolumn {}\nreason {}",
+                refusal.number,
+                refusal.place,
+                refusal.line,
+                refusal.column,
+                refusal.words()
+            )?;
+            if !found.is_empty() {
+                writeln!(file, "found {found}")?;
+            }
+        }
         Why::Header(words) => writeln!(file, "reason {words}")?,
     }
     file.sync_all()?;
