@@ -1,5 +1,5 @@
-//! Links the proved readers: the static library in `LATCHTWIG_LIB_DIR` if that is set, else the one that `rt staticlib latchtwig` builds in the repository around
-//! this crate.
+//! Links the proved calls: the static library in `LATCHTWIG_LIB_DIR` if that is set, else the one that `host/build`, in the repository around this crate, proves and builds for the
+//! machine that cargo builds for.
 //!
 //! Where there is no library, the script says why, as a warning, and does not fail: documentation and `cargo check` need none. A build then stops at "could not find native static
 //! library `latchtwig`", below the warning.
@@ -12,6 +12,15 @@ use std::process::Command;
 
 const VARIABLE: &str = "LATCHTWIG_LIB_DIR";
 const LIBRARY: &str = "liblatchtwig.a";
+
+/// What the library is made of and made by, in the repository.
+const SOURCES: [&str; 5] = [
+    "crates",
+    "crates.txt",
+    "host/build",
+    "tools/aim",
+    "tools/keep",
+];
 
 fn main() {
     println!("cargo:rerun-if-env-changed={VARIABLE}");
@@ -32,15 +41,24 @@ fn main() {
 /// Where the library is, for the machine that is built for.
 fn directory() -> Result<PathBuf, String> {
     let target = env::var("TARGET").unwrap_or_default();
-    if !(target.starts_with("x86_64-") && target.contains("-linux-")) {
+    if !has_library(&target) {
         return Err(format!(
-            "the static library is for x86-64 Linux, and this build is for {target}; name another target, as in: cargo build --target x86_64-unknown-linux-gnu"
+            "the static library is for x86-64 and aarch64 Linux, and this build is for {target}; name another target, as in: cargo build --target x86_64-unknown-linux-gnu"
         ));
     }
     match env::var_os(VARIABLE) {
         Some(named) => found(PathBuf::from(named)),
-        None => built(),
+        None => built(&target),
     }
+}
+
+/// A target of Linux on one of two machines, with their own pointers.
+fn has_library(target: &str) -> bool {
+    let machine = ["x86_64-", "aarch64-"]
+        .iter()
+        .any(|machine| target.starts_with(machine));
+    let width = env::var("CARGO_CFG_TARGET_POINTER_WIDTH").unwrap_or_default();
+    machine && target.contains("-linux-") && width == "64"
 }
 
 /// The directory that was named, if the library is there.
@@ -56,8 +74,8 @@ fn found(directory: PathBuf) -> Result<PathBuf, String> {
     Ok(directory)
 }
 
-/// Builds the library in the repository, which proves it first, and answers its directory.
-fn built() -> Result<PathBuf, String> {
+/// Builds the library by the repository, which proves it first, and answers its directory.
+fn built(target: &str) -> Result<PathBuf, String> {
     let crate_directory = env::var_os("CARGO_MANIFEST_DIR").unwrap_or_default();
     let root = Path::new(&crate_directory).join("../..");
     if !root.join("crates/latchtwig/src/lib.rt").is_file() {
@@ -65,23 +83,24 @@ fn built() -> Result<PathBuf, String> {
             "this crate does not stand in its repository; set {VARIABLE} to the directory of {LIBRARY}"
         ));
     }
-    for part in ["crates", "crates.txt"] {
+    for part in SOURCES {
         println!("cargo:rerun-if-changed={}", root.join(part).display());
     }
-    tell("latchtwig: waiting for `rt staticlib latchtwig`, which proves the readers; the first time that takes minutes");
-    match Command::new("rt")
-        .args(["staticlib", "latchtwig"])
-        .current_dir(&root)
+    tell("latchtwig: waiting for `host/build`, which proves the calls; the first time that takes minutes");
+    let directory = PathBuf::from(env::var_os("OUT_DIR").unwrap_or_default());
+    match Command::new(root.join("host/build"))
+        .args(["--target", target])
+        .arg(&directory)
         .output()
     {
-        Ok(said) if said.status.success() => Ok(root.join("target/staticlib")),
+        Ok(said) if said.status.success() => Ok(directory),
         Ok(said) => Err(format!(
-            "`rt staticlib latchtwig` failed\n{}{}",
+            "`host/build` failed; mend what it says, or set {VARIABLE} to the directory of {LIBRARY}\n{}{}",
             String::from_utf8_lossy(&said.stdout),
             String::from_utf8_lossy(&said.stderr)
         )),
         Err(error) => Err(format!(
-            "`rt`, the command of the Rattle toolchain, did not start ({error}); set {VARIABLE} to the directory of {LIBRARY}"
+            "`host/build` did not start ({error}); set {VARIABLE} to the directory of {LIBRARY}"
         )),
     }
 }
