@@ -35,10 +35,12 @@
 
 #![cfg_attr(not(feature = "std"), no_std)]
 #![deny(missing_docs)]
+#![deny(unsafe_code)]
 #![deny(unsafe_op_in_unsafe_fn)]
 
 extern crate alloc;
 
+#[allow(unsafe_code)]
 mod calls;
 mod config;
 mod refusal;
