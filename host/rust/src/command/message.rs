@@ -102,7 +102,8 @@ fn miscounted(sofar: &Sofar, place: usize) -> Option<String> {
             counted(missing, "clause")
         ));
     }
-    if sofar.clauses == of && begins_clause(sofar, place) {
+    // A clause is refused by this number only where the count is reached.
+    if begins_clause(sofar, place) {
         return Some(format!("a clause beyond the {of} of the header"));
     }
     None
@@ -111,8 +112,7 @@ fn miscounted(sofar: &Sofar, place: usize) -> Option<String> {
 /// Whether a clause stands at a place, or the beginning of one. The reader is asked, on the text from there on.
 fn begins_clause(sofar: &Sofar, place: usize) -> bool {
     let rest = &sofar.text[place..];
-    let mode = Mode::new(true, sofar.mode.cr_ends_lines());
-    let (opening, mut cursor) = lent::open(sofar.format as u32, mode as u32, rest);
+    let (opening, mut cursor) = lent::open(sofar.format as u32, sofar.mode as u32, rest);
     // With no room for literals, refusal 16 is where the first one stands.
     let no_clause = match cursor.next_clause(rest, &mut []) {
         Next::Clause { .. } => false,
