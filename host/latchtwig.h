@@ -1,6 +1,6 @@
 /* Latchtwig for C: texts in the DIMACS formats and solver logs, checked whole or read clause by clause, and headers and clauses written.
  *
- * Link liblatchtwig.a or liblatchtwig.so, which host/build writes to target/host/lib, for x86-64 or aarch64 Linux. They need no other library. This header is for C99 and C++11.
+ * Link liblatchtwig.a or liblatchtwig.so, which host/build writes to target/host/lib, for x86-64 or aarch64 Linux. They need C's memset and nothing else. This header is for C99 and C++11.
  *
  * A text is a pointer to its first byte and a count of bytes. Any bytes will do, zeros among them; nothing need end the text. A buffer of literals is a pointer and a count of literals, an output a pointer and a count of bytes.
  * With count 0 the pointer is not looked at and may be null. Otherwise so many from it on must be readable, and writable where it is not const, and nothing else may change them during a call. At

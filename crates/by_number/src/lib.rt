@@ -1,4 +1,6 @@
-// Headers and clauses written by the number of a format, for hosts: what is answered is left as words.
+// Headers and clauses written by the number of a format, for callers in other languages: what is answered is left as words.
+//
+// Each call goes by the C calling convention. host/latchtwig.h declares them for C, host/rust for Rust.
 ghost use mathlib.Core.Path.{_≡_};
 ghost use lib.ListN.{length};
 ghost use Rattle.dimacs.specs.Names.{kindOf};
@@ -61,8 +63,9 @@ fn hard_clause_line(format: u32, lits: &[i32], out: &mut [u8]) -> Written
     }
 }
 
-// The line of a header, at the output's front.
-pub fn header(
+// The line of a header at the output's front: 1 for a line, 2 for a refusal. The array holds the refusal's number and place, two zeros, and the length of the line.
+#[no_mangle]
+pub extern "C" fn latchtwig_write_header(
     format: u32,
     variables: u64,
     clauses: u64,
@@ -82,8 +85,9 @@ pub fn header(
     written_kind(written)
 }
 
-// The line of a clause, at the output's front. In the 2022 form it is soft, and its weight is not 0.
-pub fn clause(
+// The line of a clause at the output's front, answered in the same way. In the 2022 form it is soft, and its weight is not 0.
+#[no_mangle]
+pub extern "C" fn latchtwig_write_clause(
     format: u32,
     extra: u64,
     lits: &[i32],
@@ -97,8 +101,9 @@ pub fn clause(
     written_kind(written)
 }
 
-// The line of a hard clause, at the output's front. The 2022 form alone has them.
-pub fn hard_clause(
+// The line of a hard clause at the output's front, answered in the same way. The 2022 form alone has them.
+#[no_mangle]
+pub extern "C" fn latchtwig_write_hard_clause(
     format: u32,
     lits: &[i32],
     out: &mut [u8],

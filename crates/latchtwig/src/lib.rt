@@ -1,19 +1,8 @@
-// The calls for callers in other languages: whole texts checked by number, texts read clause by clause, logs read, and headers and clauses written.
+// The calls for callers in other languages that judge a whole text, by number and byte slice.
 //
-// Each goes by the C calling convention, with formats and modes by number, and answers and cursors as words. host/latchtwig.h declares them for C, host/rust for Rust.
+// Each goes by the C calling convention, with format and mode by number. host/latchtwig.h declares them for C, host/rust for Rust.
 ghost use mathlib.Core.Path.{_≡_};
-ghost use lib.ListN.{length};
-ghost use Rattle.dimacs.specs.Names.{logFormat, kindOf};
-ghost use Rattle.dimacs.specs.Header.{headerOf};
-ghost use Rattle.dimacs.specs.Writing.{writeHeader, writeClause, writeHardClause};
-ghost use Rattle.stepwise.specs.Calls.{Opens, Nexts, Logs, wordBy};
-ghost use Rattle.by_number.specs.Lines.{lineBy, LeavesLine};
 ghost use Rattle.latchtwig.specs.Outcomes.{outcomeOfLog, outcome, numberTold, placeTold, wordsTold, Checks};
-use answer_words::LOG_WORDS;
-use answer_words::NEXT_WORDS;
-use answer_words::OPENING_WORDS;
-use answer_words::WRITTEN_WORDS;
-use cursor_words::WORDS;
 use dimacs::FORMAT_OR_MODE_UNKNOWN;
 use dimacs::Kind;
 use dimacs::Mode;
@@ -108,97 +97,4 @@ pub extern "C" fn latchtwig_check(format: u32, mode: u32, text: &[u8], answer: &
     let outcome = check(text, format, mode);
     *answer = words_told(outcome, text);
     number_told(outcome)
-}
-
-// The text opened by the numbers of a format of clauses and a mode: 0 for no header, 1 for a header, 2 for a refusal. The array holds the refusal's number, place, line and column, and the
-// header's variables, clauses and third count; the cursor's words hold where the clauses begin.
-#[no_mangle]
-pub extern "C" fn latchtwig_open(
-    format: u32,
-    mode: u32,
-    text: &[u8],
-    cursor: &mut [u64; WORDS],
-    answer: &mut [u64; OPENING_WORDS],
-) -> u32
-    ensures { λ r. ⌜ Opens format mode (now (text .entry)) (now (cursor .exit)) (now (answer .exit)) r ⌝ }
-{
-    stepwise::open(format, mode, text, cursor, answer)
-}
-
-// The next answer from the cursor that the words hold: 0 for the end, 1 for a clause, 2 for a refusal. The array holds the refusal's number, place, line and column, the count of literals that
-// the buffer holds, and the clause's weight or group, 0 for a hard clause of the 2022 form; the cursor's words hold where to go on. Words that no opening left are refused by 26.
-#[no_mangle]
-pub extern "C" fn latchtwig_next(
-    text: &[u8],
-    cursor: &mut [u64; WORDS],
-    lits: &mut [i32],
-    answer: &mut [u64; NEXT_WORDS],
-) -> u32
-    ensures { λ r. ⌜ Nexts (now (text .entry)) (now (cursor .entry)) (now (cursor .exit)) (now (lits .entry)) (now (lits .exit)) (now (answer .exit)) r ⌝ }
-{
-    stepwise::next(text, cursor, lits, answer)
-}
-
-// The log by the number of a mode: 1 for a verdict, 2 for a refusal. The array holds the refusal's number, place, line and column, the count of literals that the buffer holds, and the
-// verdict: 0 none, 1 satisfiable, 2 unsatisfiable, 3 unknown.
-#[no_mangle]
-pub extern "C" fn latchtwig_log(
-    mode: u32,
-    text: &[u8],
-    lits: &mut [i32],
-    answer: &mut [u64; LOG_WORDS],
-) -> u32
-    ensures { λ r. ⌜ Logs mode (now (text .entry)) (now (lits .entry)) (now (lits .exit)) (now (answer .exit)) r ⌝ }
-{
-    stepwise::log(mode, text, lits, answer)
-}
-
-// How long the word is at the place of a refusal, by the number of the mode in which the text was read: 0 at a line end or the end of the text.
-#[no_mangle]
-pub extern "C" fn latchtwig_word(mode: u32, text: &[u8], place: u64) -> u64
-    ensures { λ r. ⌜ r ≡ length (wordBy (kindOf logFormat mode) (now (text .entry)) place) ⌝ }
-{
-    stepwise::word(mode, text, place)
-}
-
-// The line of a header at the output's front: 1 for a line, 2 for a refusal. The array holds the refusal's number and place, two zeros, and the length of the line.
-#[no_mangle]
-pub extern "C" fn latchtwig_write_header(
-    format: u32,
-    variables: u64,
-    clauses: u64,
-    third: u64,
-    out: &mut [u8],
-    answer: &mut [u64; WRITTEN_WORDS],
-) -> u32
-    ensures { λ r. ⌜ LeavesLine (lineBy format (λ f. writeHeader f (headerOf variables clauses third) (length (now (out .entry))))) (now (out .entry)) (now (out .exit)) (now (answer .exit)) r ⌝ }
-{
-    by_number::header(format, variables, clauses, third, out, answer)
-}
-
-// The line of a clause at the output's front, answered in the same way. In the 2022 form it is soft, and its weight is not 0.
-#[no_mangle]
-pub extern "C" fn latchtwig_write_clause(
-    format: u32,
-    extra: u64,
-    lits: &[i32],
-    out: &mut [u8],
-    answer: &mut [u64; WRITTEN_WORDS],
-) -> u32
-    ensures { λ r. ⌜ LeavesLine (lineBy format (λ f. writeClause f extra (now (lits .entry)) (length (now (out .entry))))) (now (out .entry)) (now (out .exit)) (now (answer .exit)) r ⌝ }
-{
-    by_number::clause(format, extra, lits, out, answer)
-}
-
-// The line of a hard clause at the output's front, answered in the same way. The 2022 form alone has them.
-#[no_mangle]
-pub extern "C" fn latchtwig_write_hard_clause(
-    format: u32,
-    lits: &[i32],
-    out: &mut [u8],
-    answer: &mut [u64; WRITTEN_WORDS],
-) -> u32
-    ensures { λ r. ⌜ LeavesLine (lineBy format (λ f. writeHardClause f (now (lits .entry)) (length (now (out .entry))))) (now (out .entry)) (now (out .exit)) (now (answer .exit)) r ⌝ }
-{
-    by_number::hard_clause(format, lits, out, answer)
 }

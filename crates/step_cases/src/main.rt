@@ -32,7 +32,7 @@ fn word_at(text: &[u8], place: usize, length: usize) -> &[u8] {
 // The word that a refusal stopped at, if there is one. Where a format or mode is unknown no text is at fault, and there is no word.
 fn stopped_word(page: &mut [u8], at: usize, text: &[u8], mode: u32, r: Refusal) -> usize {
     let place = r.place;
-    let length = latchtwig::latchtwig_word(mode, text, place as u64);
+    let length = stepwise::latchtwig_word(mode, text, place as u64);
     if r.number == dimacs::FORMAT_OR_MODE_UNKNOWN || length == 0 {
         return at;
     }
@@ -69,7 +69,7 @@ fn one_clause(
     page: &mut [u8],
 ) -> bool {
     let mut words = [0u64; NEXT_WORDS];
-    let kind = latchtwig::latchtwig_next(text, cursor, lits, &mut words);
+    let kind = stepwise::latchtwig_next(text, cursor, lits, &mut words);
     if kind == 1 {
         let count = words[4] as usize;
         let past = clause_line(page, 0, format, words[5], &lits[..count]);
@@ -129,7 +129,7 @@ fn named(format: u8, mode: u8) -> Format {
 fn formula_lines(text: &[u8], format: u8, mode: u8, lits: &mut [i32], page: &mut [u8]) {
     let mut cursor = [0u64; WORDS];
     let mut words = [0u64; OPENING_WORDS];
-    let kind = latchtwig::latchtwig_open(format as u32, mode as u32, text, &mut cursor, &mut words);
+    let kind = stepwise::latchtwig_open(format as u32, mode as u32, text, &mut cursor, &mut words);
     let past = opening_line(page, kind, words, named(format, mode));
     show(page, past);
     clauses(
@@ -166,7 +166,7 @@ fn accepted(page: &mut [u8], verdict: u64, lits: &[i32]) {
 
 fn log_lines(text: &[u8], mode: u32, lits: &mut [i32], page: &mut [u8]) {
     let mut words = [0u64; LOG_WORDS];
-    let kind = latchtwig::latchtwig_log(mode, text, lits, &mut words);
+    let kind = stepwise::latchtwig_log(mode, text, lits, &mut words);
     if kind == 1 {
         let count = words[4] as usize;
         return accepted(page, words[5], &lits[..count]);

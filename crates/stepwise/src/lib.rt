@@ -1,4 +1,6 @@
-// Texts read clause by clause, and logs, for hosts: the cursor is lent as words, and what a call answers is left as words.
+// Texts read clause by clause, and logs, for callers in other languages: the cursor is lent as words, and what a call answers is left as words.
+//
+// Each call goes by the C calling convention, with formats and modes by number. host/latchtwig.h declares them for C, host/rust for Rust.
 ghost use mathlib.Core.Path.{_≡_};
 ghost use lib.ListN.{length};
 ghost use Rattle.dimacs.specs.Names.{logFormat, kindOf};
@@ -20,8 +22,10 @@ use dimacs::LOG_FORMAT;
 use dimacs::kind_of;
 use numbers::narrowed;
 
-// The text opened by the numbers of a format of clauses and a mode. Whether it has a header is answered, what the header says is left, and so is the cursor with which its clauses begin.
-pub fn open(
+// The text opened by the numbers of a format of clauses and a mode: 0 for no header, 1 for a header, 2 for a refusal. The array holds the refusal's number, place, line and column, and the
+// header's variables, clauses and third count; the cursor's words hold where the clauses begin.
+#[no_mangle]
+pub extern "C" fn latchtwig_open(
     format: u32,
     mode: u32,
     text: &[u8],
@@ -38,8 +42,10 @@ pub fn open(
     opening_kind(opening)
 }
 
-// The next clause, the end or a refusal, from the cursor that the words hold. The buffer then holds the literals read, and after them what it held, and the words hold the cursor to go on with.
-pub fn next(
+// The next answer from the cursor that the words hold: 0 for the end, 1 for a clause, 2 for a refusal. The array holds the refusal's number, place, line and column, the count of literals that
+// the buffer holds, and the clause's weight or group, 0 for a hard clause of the 2022 form; the cursor's words hold where to go on. Words that no opening left are refused by 26.
+#[no_mangle]
+pub extern "C" fn latchtwig_next(
     text: &[u8],
     cursor: &mut [u64; WORDS],
     lits: &mut [i32],
@@ -56,8 +62,15 @@ pub fn next(
     next_kind(said)
 }
 
-// The log by the number of a mode. The buffer then holds the literals read, and after them what it held.
-pub fn log(mode: u32, text: &[u8], lits: &mut [i32], answer: &mut [u64; LOG_WORDS]) -> u32
+// The log by the number of a mode: 1 for a verdict, 2 for a refusal. The array holds the refusal's number, place, line and column, the count of literals that the buffer holds, and the
+// verdict: 0 none, 1 satisfiable, 2 unsatisfiable, 3 unknown.
+#[no_mangle]
+pub extern "C" fn latchtwig_log(
+    mode: u32,
+    text: &[u8],
+    lits: &mut [i32],
+    answer: &mut [u64; LOG_WORDS],
+) -> u32
     ensures { λ r. ⌜ Logs mode (now (text .entry)) (now (lits .entry)) (now (lits .exit)) (now (answer .exit)) r ⌝ }
 {
     let log = sat_solver_log::parse_log(text, narrowed(mode as u64), lits);
@@ -65,8 +78,9 @@ pub fn log(mode: u32, text: &[u8], lits: &mut [i32], answer: &mut [u64; LOG_WORD
     log_kind(log)
 }
 
-// How long the word is at a place where a reader stopped, by the number of its mode: 0 at a line end or the end of the text, and where no mode is named.
-pub fn word(mode: u32, text: &[u8], place: u64) -> u64
+// How long the word is at the place of a refusal, by the number of the mode in which the text was read: 0 at a line end or the end of the text.
+#[no_mangle]
+pub extern "C" fn latchtwig_word(mode: u32, text: &[u8], place: u64) -> u64
     ensures { λ r. ⌜ r ≡ length (wordBy (kindOf logFormat mode) (now (text .entry)) place) ⌝ }
 {
     match kind_of(LOG_FORMAT, narrowed(mode as u64)) {

@@ -117,7 +117,7 @@ fn told(kind: u32, words: [u64; WRITTEN_WORDS]) -> Written {
 
 fn header(call: Call, out: &mut [u8]) -> Written {
     let mut words = [0u64; WRITTEN_WORDS];
-    let kind = latchtwig::latchtwig_write_header(
+    let kind = by_number::latchtwig_write_header(
         call.format as u32,
         call.first,
         call.second,
@@ -130,7 +130,7 @@ fn header(call: Call, out: &mut [u8]) -> Written {
 
 fn clause(call: Call, lits: &[i32], out: &mut [u8]) -> Written {
     let mut words = [0u64; WRITTEN_WORDS];
-    let kind = latchtwig::latchtwig_write_clause(
+    let kind = by_number::latchtwig_write_clause(
         call.format as u32,
         call.first,
         lits,
@@ -142,7 +142,7 @@ fn clause(call: Call, lits: &[i32], out: &mut [u8]) -> Written {
 
 fn hard_clause(call: Call, lits: &[i32], out: &mut [u8]) -> Written {
     let mut words = [0u64; WRITTEN_WORDS];
-    let kind = latchtwig::latchtwig_write_hard_clause(call.format as u32, lits, out, &mut words);
+    let kind = by_number::latchtwig_write_hard_clause(call.format as u32, lits, out, &mut words);
     told(kind, words)
 }
 

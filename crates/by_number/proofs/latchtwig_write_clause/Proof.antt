@@ -1,8 +1,8 @@
--- `by_number::clause` meets its contract, by what the writer promises. Assumes nothing.
+-- `by_number::latchtwig_write_clause` meets its contract, by what the writer promises. Assumes nothing.
 use Rattle.by_number.proofs.Left.{leaves}
 use borrow.Author.Needs.{needs}
-use Rattle.by_number.proofs.clause.Statement.{statement}
-use Rattle.by_number.proofs.clause.Tie as tie
+use Rattle.by_number.proofs.latchtwig_write_clause.Statement.{statement}
+use Rattle.by_number.proofs.latchtwig_write_clause.Tie as tie
 
 clause-line-requires : tie.Need-clause-line-requires
 clause-line-requires c κs = search needs
@@ -21,8 +21,8 @@ returns c =
     let at-words = c .before in
     leaves _ (at-words .before .before .before .clause-line .ensures) (at-words .written-words .ensures) (c .written-kind .ensures)
 
-pub clause-spec : {M : Type 1} → statement M
-clause-spec =
+pub latchtwig-write-clause-spec : {M : Type 1} → statement M
+latchtwig-write-clause-spec =
     tie.close
     (tie.spec
     clause-line-requires

@@ -1,8 +1,8 @@
--- `stepwise::open` meets its contract, by what opening the text promises. Assumes nothing.
+-- `stepwise::latchtwig_open` meets its contract, by what opening the text promises. Assumes nothing.
 use Rattle.stepwise.proofs.Parts.{opens}
 use borrow.Author.Needs.{needs}
-use Rattle.stepwise.proofs.open.Statement.{statement}
-use Rattle.stepwise.proofs.open.Tie as tie
+use Rattle.stepwise.proofs.latchtwig_open.Statement.{statement}
+use Rattle.stepwise.proofs.latchtwig_open.Tie as tie
 
 narrowed-requires : tie.Need-narrowed-requires
 narrowed-requires c κs = search needs
@@ -31,8 +31,8 @@ returns c =
     let f = at-open .before .before .narrowed .ensures in
     opens _ _ _ _ f m (at-open .«open» .ensures) (at-cursor .cursor-words .ensures) (at-words .opening-words .ensures) (c .opening-kind .ensures)
 
-pub open-spec : {M : Type 1} → statement M
-open-spec =
+pub latchtwig-open-spec : {M : Type 1} → statement M
+latchtwig-open-spec =
     tie.close
     (tie.spec
     narrowed-requires

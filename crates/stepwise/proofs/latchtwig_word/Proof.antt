@@ -1,11 +1,11 @@
--- `stepwise::word` meets its contract, by what the number of the mode names. Assumes nothing.
+-- `stepwise::latchtwig_word` meets its contract, by what the number of the mode names. Assumes nothing.
 use mathlib.Core.Path.{refl, sym, ap, _∙_}
 use lib.ListN.{length}
 use Rattle.dimacs.specs.Names.{logFormat}
 use Rattle.numbers.proofs.Named.{named}
 use borrow.Author.Needs.{needs}
-use Rattle.stepwise.proofs.word.Statement.{statement}
-use Rattle.stepwise.proofs.word.Tie as tie
+use Rattle.stepwise.proofs.latchtwig_word.Statement.{statement}
+use Rattle.stepwise.proofs.latchtwig_word.Tie as tie
 
 narrowed-requires : tie.Need-narrowed-requires
 narrowed-requires c κs = search needs
@@ -44,8 +44,8 @@ returns-3 c =
     let k = sym (named logFormat _ refl (at-kind .before .narrowed .ensures)) ∙ sym (at-kind .kind-of .ensures) ∙ told .named .given .1 in
     rw k (ap length (c .stopped-at .ensures .bytes))
 
-pub word-spec : {M : Type 1} → statement M
-word-spec =
+pub latchtwig-word-spec : {M : Type 1} → statement M
+latchtwig-word-spec =
     tie.close
     (tie.spec
     narrowed-requires

@@ -1,8 +1,8 @@
--- `by_number::hard_clause` meets its contract, by what the writer promises. Assumes nothing.
+-- `by_number::latchtwig_write_hard_clause` meets its contract, by what the writer promises. Assumes nothing.
 use Rattle.by_number.proofs.Left.{leaves}
 use borrow.Author.Needs.{needs}
-use Rattle.by_number.proofs.hard_clause.Statement.{statement}
-use Rattle.by_number.proofs.hard_clause.Tie as tie
+use Rattle.by_number.proofs.latchtwig_write_hard_clause.Statement.{statement}
+use Rattle.by_number.proofs.latchtwig_write_hard_clause.Tie as tie
 
 hard-clause-line-requires : tie.Need-hard-clause-line-requires
 hard-clause-line-requires c κs = search needs
@@ -21,8 +21,8 @@ returns c =
     let at-words = c .before in
     leaves _ (at-words .before .before .before .hard-clause-line .ensures) (at-words .written-words .ensures) (c .written-kind .ensures)
 
-pub hard-clause-spec : {M : Type 1} → statement M
-hard-clause-spec =
+pub latchtwig-write-hard-clause-spec : {M : Type 1} → statement M
+latchtwig-write-hard-clause-spec =
     tie.close
     (tie.spec
     hard-clause-line-requires

@@ -1,8 +1,8 @@
--- `by_number::header` meets its contract, by what the writer promises. Assumes nothing.
+-- `by_number::latchtwig_write_header` meets its contract, by what the writer promises. Assumes nothing.
 use Rattle.by_number.proofs.Left.{leaves}
 use borrow.Author.Needs.{needs}
-use Rattle.by_number.proofs.header.Statement.{statement}
-use Rattle.by_number.proofs.header.Tie as tie
+use Rattle.by_number.proofs.latchtwig_write_header.Statement.{statement}
+use Rattle.by_number.proofs.latchtwig_write_header.Tie as tie
 
 header-line-requires : tie.Need-header-line-requires
 header-line-requires c κs = search needs
@@ -21,8 +21,8 @@ returns c =
     let at-words = c .before in
     leaves _ (at-words .before .before .before .header-line .ensures) (at-words .written-words .ensures) (c .written-kind .ensures)
 
-pub header-spec : {M : Type 1} → statement M
-header-spec =
+pub latchtwig-write-header-spec : {M : Type 1} → statement M
+latchtwig-write-header-spec =
     tie.close
     (tie.spec
     header-line-requires

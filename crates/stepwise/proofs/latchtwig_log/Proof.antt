@@ -1,8 +1,8 @@
--- `stepwise::log` meets its contract, by what the reader of logs promises. Assumes nothing.
+-- `stepwise::latchtwig_log` meets its contract, by what the reader of logs promises. Assumes nothing.
 use Rattle.stepwise.proofs.Parts.{logs}
 use borrow.Author.Needs.{needs}
-use Rattle.stepwise.proofs.log.Statement.{statement}
-use Rattle.stepwise.proofs.log.Tie as tie
+use Rattle.stepwise.proofs.latchtwig_log.Statement.{statement}
+use Rattle.stepwise.proofs.latchtwig_log.Tie as tie
 
 narrowed-requires : tie.Need-narrowed-requires
 narrowed-requires c κs = search needs
@@ -26,8 +26,8 @@ returns c =
     let m = at-log .before .before .narrowed .ensures in
     logs _ _ _ _ _ m (at-log .parse-log .ensures) (at-words .log-words .ensures) (c .log-kind .ensures)
 
-pub log-spec : {M : Type 1} → statement M
-log-spec =
+pub latchtwig-log-spec : {M : Type 1} → statement M
+latchtwig-log-spec =
     tie.close
     (tie.spec
     narrowed-requires

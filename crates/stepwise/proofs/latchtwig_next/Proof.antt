@@ -1,8 +1,8 @@
--- `stepwise::next` meets its contract, by what the call from the cursor promises. Assumes nothing.
+-- `stepwise::latchtwig_next` meets its contract, by what the call from the cursor promises. Assumes nothing.
 use Rattle.stepwise.proofs.Parts.{nexts}
 use borrow.Author.Needs.{needs}
-use Rattle.stepwise.proofs.next.Statement.{statement}
-use Rattle.stepwise.proofs.next.Tie as tie
+use Rattle.stepwise.proofs.latchtwig_next.Statement.{statement}
+use Rattle.stepwise.proofs.latchtwig_next.Tie as tie
 
 held-cursor-requires : tie.Need-held-cursor-requires
 held-cursor-requires c κs = search needs
@@ -30,8 +30,8 @@ returns c =
     let from = at-step .before .before in
     nexts _ _ _ _ _ _ (from .held-cursor .ensures) (at-step .next-clause .ensures) (at-cursor .cursor-words .ensures) (at-words .next-words .ensures) (c .next-kind .ensures)
 
-pub next-spec : {M : Type 1} → statement M
-next-spec =
+pub latchtwig-next-spec : {M : Type 1} → statement M
+latchtwig-next-spec =
     tie.close
     (tie.spec
     held-cursor-requires
