@@ -38,6 +38,7 @@ skipped = []
 FORMATS = ["plain", "weighted", "grouped", "log", "weighted2022"]
 MODES = {"strict": [], "lenient": ["--lenient"], "strict-cr": ["--cr"], "lenient-cr": ["--lenient", "--cr"]}
 CLAUSE = "a clause, a comment, a line end or a permitted end of the text is expected"
+COUNTED = "a comment, a line end or the end of the text is expected after the "
 LINE_END, TEXT_END, RETURN = "found the end of the line", "found the end of the text", "found a CR without LF; --cr takes it for a line end"
 BIG, LARGEST = b"18446744073709551616", 2147483647
 
@@ -79,8 +80,8 @@ REFUSED = [
     ("--cr", b"p cnf 2 2\r1 0\r2 0\r \t3 0\r", "4:3: refused 9: a clause beyond the 2 of the header", r" \t3 0", 3),
     ("", b"p wcnf 2 1 1\n1 1 0\n1 2 0\n", "3:1: refused 9: a clause beyond the 1 of the header", "1 2 0", 0),
     ("", b"p gcnf 2 1 1\n{1} 1 0\n{3}", "3:1: refused 9: a clause beyond the 1 of the header", "{3}", 0),
-    ("", b"p cnf 2 1\n1 0\n%\n0\n", "3:1: refused 9: " + CLAUSE + ", found `%`", "%", 0),
-    ("", b"p cnf 2 1\n1 0\np cnf 2 1\n1 0\n", "3:1: refused 9: " + CLAUSE + ", found `p`", "p cnf 2 1", 0),
+    ("", b"p cnf 2 1\n1 0\n%\n0\n", "3:1: refused 9: " + COUNTED + "1 clause of the header, found `%`", "%", 0),
+    ("", b"p cnf 2 2\n1 0\n2 0\np cnf 2 1\n1 0\n", "4:1: refused 9: " + COUNTED + "2 clauses of the header, found `p`", "p cnf 2 1", 0),
     ("--lenient", b"p cnf 2 1\n1 0\n2 0\nx", "4:1: refused 9: " + CLAUSE + ", found `x`", "x", 0),
     ("", b"p cnf 2147483648 1\n", f"1:7: refused 10: a count of variables up to {LARGEST} is expected, found `2147483648`", "p cnf 2147483648 1", 6),
     ("", b"p cnf 1 " + BIG, f"1:9: refused 11: a count of clauses up to {2**64 - 1} is expected, found `{2**64}`", f"p cnf 1 {2**64}", 8),

@@ -44,11 +44,17 @@ impl<'t> Sofar<'t> {
             _ => Header::default(),
         }
     }
+
+    /// Whether as many clauses are read as the header has.
+    fn is_counted(&self) -> bool {
+        let of = self.applied().clauses;
+        of != 0 && of == self.clauses
+    }
 }
 
 /// What is told of a refusal.
 pub fn told(sofar: &Sofar, refusal: &Refusal) -> Told {
-    let expected = expected(sofar.format, refusal);
+    let expected = expected(sofar, refusal);
     let found = found(sofar, refusal.place);
     let message = match special(sofar, refusal, &found) {
         Some(message) => message,
@@ -65,16 +71,24 @@ pub fn told(sofar: &Sofar, refusal: &Refusal) -> Told {
     }
 }
 
-fn expected(format: Format, refusal: &Refusal) -> String {
-    let word = match format {
+fn expected(sofar: &Sofar, refusal: &Refusal) -> String {
+    match refusal.number {
+        FORMAT_WORD_EXPECTED => format!("`{}` is expected after `p`", word_of(sofar.format)),
+        CLAUSE_EXPECTED if sofar.is_counted() => format!(
+            "a comment, a line end or the end of the text is expected after the {} of the header",
+            counted(sofar.clauses, "clause")
+        ),
+        _ => refusal.words().to_owned(),
+    }
+}
+
+/// The word of a format in its header.
+fn word_of(format: Format) -> &'static str {
+    match format {
         Format::Plain => "cnf",
         Format::Weighted => "wcnf",
         Format::Grouped => "gcnf",
         Format::Log | Format::Weighted2022 => "",
-    };
-    match refusal.number {
-        FORMAT_WORD_EXPECTED => format!("`{word}` is expected after `p`"),
-        _ => refusal.words().to_owned(),
     }
 }
 
@@ -102,8 +116,7 @@ fn miscounted(sofar: &Sofar, place: usize) -> Option<String> {
             counted(missing, "clause")
         ));
     }
-    // A clause is refused by this number only where the count is reached.
-    if begins_clause(sofar, place) {
+    if sofar.is_counted() && begins_clause(sofar, place) {
         return Some(format!("a clause beyond the {of} of the header"));
     }
     None
