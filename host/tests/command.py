@@ -40,6 +40,7 @@ MODES = {"strict": [], "lenient": ["--lenient"], "strict-cr": ["--cr"], "lenient
 CLAUSE = "a clause, a comment, a line end or a permitted end of the text is expected"
 COUNTED = "a comment, a line end or the end of the text is expected after the "
 LINE_END, TEXT_END, RETURN = "found the end of the line", "found the end of the text", "found a CR without LF; --cr takes it for a line end"
+HIDDEN = "; it has a CR without LF, which --cr takes for a line end"
 BIG, LARGEST = b"18446744073709551616", 2147483647
 
 # Texts that are refused: the options, the text, the line and column with the message, the line that is shown, and how many characters stand before its caret.
@@ -132,7 +133,13 @@ REFUSED = [
 # Texts that are accepted: the options, the text, and what is said of it.
 ACCEPTED = [
     ("", b"", "plain: 0 clauses"),
-    ("", b"c one\rp cnf 1 1\r1 0\r", "plain: 0 clauses"),
+    ("", b"c one\rp cnf 1 1\r1 0\r", "plain: 0 clauses" + HIDDEN),
+    ("", b"c one\r", "plain: 0 clauses" + HIDDEN),
+    ("", b"c one\r\nc two\r\n", "plain: 0 clauses"),
+    ("", b"c one\r two\n1 0\n", "plain: 1 clause"),
+    ("--cr", b"c one\r", "plain: 0 clauses"),
+    ("--format log", b"c one\rs SATISFIABLE\r", "log: none, the solver left no answer; look why, and run it again" + HIDDEN),
+    ("--format log", b"c one\rtwo\ns UNKNOWN\n", "log: unknown, the solver gave up; whether the order can be built is not known"),
     ("--cr", b"c one\rp cnf 1 1\r1 0\r", "plain: 1 clause"),
     ("--lenient", b"p cnf 1 1\n2 0\n3 0\n", "plain: 2 clauses"),
     ("--lenient --cr", b"p cnf 1 1\r2 0\r3 0\r", "plain: 2 clauses"),

@@ -69,11 +69,29 @@ impl fmt::Display for Whole<'_> {
         match self.1.judged {
             Judged::Accepted(accepted) => {
                 let format = names::name_of_format(self.1.format);
-                write!(f, ": accepted as {format}: {}", said(accepted))
+                let hint = hint(self.1, accepted);
+                write!(f, ": accepted as {format}: {}{hint}", said(accepted))
             }
             Judged::Refused(told) => refused(f, self.1, told),
         }
     }
+}
+
+/// What is said of a text of which nothing was read, if it may be that its lines end with CR alone: then all of it is one comment where it begins with one.
+fn hint(judgement: &Judgement, accepted: &Accepted) -> &'static str {
+    let nothing = match accepted {
+        Accepted::Clauses { count, .. } => *count == 0,
+        Accepted::Log(verdict) => *verdict == Verdict::Missing,
+    };
+    if nothing && !judgement.mode.cr_ends_lines() && has_lone_return(judgement.text) {
+        return "; it has a CR without LF, which --cr takes for a line end";
+    }
+    ""
+}
+
+fn has_lone_return(text: &[u8]) -> bool {
+    let is_return = |(at, &byte): (usize, &u8)| byte == b'\r' && text.get(at + 1) != Some(&b'\n');
+    text.iter().enumerate().any(is_return)
 }
 
 fn said(accepted: &Accepted) -> String {
