@@ -14,7 +14,7 @@ use Rattle.dimacs.specs.declared.Final.{Final}
 use Rattle.dimacs.specs.declared.Final.the-variants.{Open, Ended, Refused}
 use Rattle.formula.specs.Cursors.{unknown}
 use Rattle.formula.specs.declared.Cursor.{Cursor}
-use Rattle.cursor_words.specs.Cursors.{formatKind, endsKind, finalKind, finalRefusal, cursorWords, heldEnds, heldFinal, heldIn, heldCursor, Holds}
+use Rattle.cursor_words.specs.Cursors.{formatKind, endsKind, finalKind, finalRefusal, cursorWords, largestLimit, heldEnds, heldFinal, heldIn, heldCursor, Holds}
 
 -- A refusal whose number is brought down to a byte.
 abbrev narrow : Refusal → Refusal
@@ -29,11 +29,11 @@ ends-again : (e : Ends) → heldEnds (endsKind e) ≡ e
 ends-again LineFeed = refl
 ends-again AlsoReturn = refl
 
-module _ (c : Cursor) (literals : c .limits .literals ≤ 4294967295) (number : finalRefusal (c .progress .last) .number ≤ 255) where
+module _ (c : Cursor) (literals : c .limits .literals ≤ largestLimit) (number : finalRefusal (c .progress .last) .number ≤ 255) where
   in-again : heldIn (c .format) (cursorWords c) ≡ c
   unfolding heldIn
   in-again =
-      let m : min (c .limits .literals) 4294967295 ≡ c .limits .literals = omega arith in
+      let m : min (c .limits .literals) largestLimit ≡ c .limits .literals = omega arith in
       rw (m, final-again (c .progress .last) number, ends-again (c .ends))
 
   by-format : (f : Format) → c .format ≡ f → heldCursor (cursorWords c) ≡ heldIn f (cursorWords c)

@@ -49,9 +49,13 @@ cursorWords c =
     p .place ∷ p .count ∷ limits .literals ∷ limits .groups ∷ limits .clauses ∷ formatKind (c .format) ∷ endsKind (c .ends)
     ∷ finalKind (p .last) ∷ r .number ∷ r .place ∷ r .line ∷ r .column ∷ []
 
+-- The largest limit of literals that a cursor can hold: it has 32 bits.
+abbrev pub largestLimit : ℕ
+largestLimit = 4294967295
+
 -- The line rule that a number holds.
 abbrev pub heldEnds : ℕ → Ends
-heldEnds n = cond (eqb n 0) LineFeed AlsoReturn
+heldEnds n = cond (eqb n (endsKind LineFeed)) LineFeed AlsoReturn
 
 -- The refusal that words hold. Its number is a byte.
 abbrev pub heldRefusal : List ℕ → Refusal
@@ -59,14 +63,14 @@ heldRefusal w = record { number = min (getD w 8 0) 255; place = getD w 9 0; line
 
 -- The final answer that a number and a refusal hold.
 abbrev pub heldFinal : ℕ → Refusal → Final
-heldFinal n r = cond (eqb n 0) Open (cond (eqb n 1) Ended (Refused r))
+heldFinal n r = cond (eqb n (finalKind Open)) Open (cond (eqb n (finalKind Ended)) Ended (Refused r))
 
--- The cursor in a format that words hold. Its limit of literals has 32 bits.
+-- The cursor in a format that words hold. A limit of literals above the largest is the largest.
 unfoldable pub heldIn : Format → List ℕ → Cursor
 heldIn f w =
     record {
       progress = record { place = getD w 0 0; count = getD w 1 0; last = heldFinal (getD w 7 0) (heldRefusal w) };
-      limits = record { literals = min (getD w 2 0) 4294967295; groups = getD w 3 0; clauses = getD w 4 0 };
+      limits = record { literals = min (getD w 2 0) largestLimit; groups = getD w 3 0; clauses = getD w 4 0 };
       format = f;
       ends = heldEnds (getD w 6 0);
     }
@@ -75,7 +79,10 @@ heldIn f w =
 unfoldable pub heldCursor : List ℕ → Cursor
 heldCursor w =
     let f = getD w 5 0 in
-    cond (eqb f 1) (heldIn Plain w) (cond (eqb f 2) (heldIn Weighted w) (cond (eqb f 3) (heldIn Grouped w) (cond (eqb f 4) (heldIn Weighted2022 w) (unknown .cursor))))
+    cond (eqb f (formatKind Plain)) (heldIn Plain w)
+    (cond (eqb f (formatKind Weighted)) (heldIn Weighted w)
+    (cond (eqb f (formatKind Grouped)) (heldIn Grouped w)
+    (cond (eqb f (formatKind Weighted2022)) (heldIn Weighted2022 w) (unknown .cursor))))
 
 -- Words hold a cursor: they are its words, and it can be had from them again.
 pub record Holds (c : Cursor) (w : List ℕ) : Type 0 where

@@ -4,7 +4,7 @@
 ghost use mathlib.Core.Path.{_≡_};
 ghost use Prim.Native.Nat.{min};
 ghost use Rattle.formula.specs.Cursors.{unknown};
-ghost use Rattle.cursor_words.specs.Cursors.{formatKind, endsKind, finalKind, finalRefusal, heldEnds, heldRefusal, heldFinal, heldIn, heldCursor, Holds};
+ghost use Rattle.cursor_words.specs.Cursors.{formatKind, endsKind, finalKind, finalRefusal, largestLimit, heldEnds, heldRefusal, heldFinal, heldIn, heldCursor, Holds};
 use dimacs::Ends;
 use dimacs::FORMAT_OR_MODE_UNKNOWN;
 use dimacs::Final;
@@ -91,7 +91,7 @@ pub fn cursor_words(c: Cursor) -> [u64; WORDS]
 
 // A number as a limit of literals. One above all that a cursor can hold goes to the largest.
 fn held_limit(n: u64) -> u32
-    ensures { λ r. ⌜ r ≡ min n 4294967295 ⌝ }
+    ensures { λ r. ⌜ r ≡ min n largestLimit ⌝ }
 {
     if n < LARGEST_LIMIT {
         return n as u32;

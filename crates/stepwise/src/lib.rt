@@ -78,7 +78,7 @@ pub extern "C" fn latchtwig_log(
     log_kind(log)
 }
 
-// How long the word is at the place of a refusal, by the number of the mode in which the text was read: 0 at a line end or the end of the text.
+// How long the word is at the place of a refusal, by the number of the mode in which the text was read: 0 at a line end or the end of the text, and where no mode is named.
 #[no_mangle]
 pub extern "C" fn latchtwig_word(mode: u32, text: &[u8], place: u64) -> u64
     ensures { λ r. ⌜ r ≡ length (wordBy (kindOf logFormat mode) (now (text .entry)) place) ⌝ }
