@@ -22,7 +22,7 @@ const TEXT: usize = 65536;
 const PAGE: usize = 31 + 12 * ROOM;
 
 // A formula but for its clauses. Those are two lists: the weights or groups, 0 where a clause has none, and the literals, a 0 after each clause.
-#[derive(Drop)]
+#[derive(Clone, Copy)]
 struct Formula {
     format: Format,
     headed: bool,

@@ -51,7 +51,7 @@ fn outcome_line(page: &mut [u8], at: usize, format: u32, mode: u32, text: &[u8])
 }
 
 // What a frame says before its text.
-#[derive(Drop)]
+#[derive(Clone, Copy)]
 struct Head {
     format: u32,
     mode: u32,

@@ -237,7 +237,7 @@ fn long(stdin: &mut Stdin, stdout: &mut Stdout, length: usize) -> bool {
 }
 
 // What a frame says before its text.
-#[derive(Drop)]
+#[derive(Clone, Copy)]
 struct Head {
     format: u8,
     mode: u8,

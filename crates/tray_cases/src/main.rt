@@ -22,7 +22,7 @@ const LONGEST: usize = 18;
 const PAGE: usize = 16384;
 
 // A text to be put.
-#[derive(Drop)]
+#[derive(Clone, Copy)]
 struct Put {
     format: u8,
     mode: u8,
@@ -31,7 +31,7 @@ struct Put {
 }
 
 // A call as the input has it, or none that can be made.
-#[derive(Drop)]
+#[derive(Clone, Copy)]
 enum Call {
     Put(Put),
     Turn { lent: usize, room: usize },

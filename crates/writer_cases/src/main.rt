@@ -26,7 +26,7 @@ const OUTPUT: usize = 65536;
 const PAGE: usize = 15 + 2 * OUTPUT;
 
 // What a frame asks for, but for the literals and the output.
-#[derive(Drop)]
+#[derive(Clone, Copy)]
 struct Call {
     format: u8,
     kind: u8,
