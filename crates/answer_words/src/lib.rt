@@ -1,4 +1,6 @@
 // Answers as words, for hosts: what is answered is a number of its own, and the words begin with number, place, line and column of the refusal, all 0 where nothing is refused.
+#![tactic(auto)]
+
 ghost use Rattle.std.specs.Prelude.{◌≡◌};
 ghost use Rattle.answer_words.specs.Words.{opening_kind, opening_words, next_kind, next_words, verdict_kind, log_kind, log_words, written_kind, written_words};
 

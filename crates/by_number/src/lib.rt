@@ -1,6 +1,8 @@
 // Headers and clauses written by the number of a format, for callers in other languages: what is answered is left as words.
 //
 // `by_number_c` exports them by the C calling convention; host/latchtwig.h declares them for C, host/rust for Rust.
+#![tactic(auto)]
+
 ghost use Rattle.std.specs.Prelude.{◌≡◌, length};
 ghost use Rattle.dimacs.specs.Names.{kind_of};
 ghost use Rattle.dimacs.specs.Header.{header_of};

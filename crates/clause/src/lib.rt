@@ -1,4 +1,6 @@
 // A clause of each format, read into a lent buffer of literals: how it begins, its literals, and how it ends.
+#![tactic(auto)]
+
 ghost use Rattle.std.specs.Prelude.{◌≡◌, length};
 ghost use Rattle.dimacs.specs.Lined.{lined};
 ghost use Rattle.dimacs.specs.Clauses.{instead, absent, is_zero, start_by, soft_by, start_in2022, start_at, closing, clause_at};
@@ -16,7 +18,7 @@ use dimacs::{
 use rows::Row;
 
 // What a list of literals comes to: no number stands at its place; or how many there are and the place past the 0 and the blanks after it; or a refusal and how many stand before it.
-#[derive(Drop)]
+#[derive(Clone, Copy)]
 pub enum Literals {
     Nothing,
     Closed { count: usize, next: usize },
@@ -24,7 +26,7 @@ pub enum Literals {
 }
 
 // What a call for the next clause answers.
-#[derive(Drop)]
+#[derive(Clone, Copy)]
 pub enum Next {
     // A clause: its weight or group, 0 if it has neither, and how many literals the buffer holds of it.
     Clause { extra: u64, count: usize },
@@ -35,7 +37,7 @@ pub enum Next {
 }
 
 // An answer, and the place where the next call begins.
-#[derive(Drop)]
+#[derive(Clone, Copy)]
 pub struct Answered {
     pub answer: Next,
     pub place: usize,
@@ -120,7 +122,7 @@ pub fn no_clause(text: &[u8], ends: Ends, at: usize) -> Answered
 
 // What stands before the literals of a clause: they begin at a place, after its weight or group, 0 if it has neither, and with what it means if no number stands
 // there; or nothing does; or what is refused by a number, at the clause's own place. It holds no refusal: so it is small, and LLVM keeps it in registers.
-#[derive(Drop)]
+#[derive(Clone, Copy)]
 enum Begin {
     Literals {
         extra: u64,

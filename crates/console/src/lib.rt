@@ -1,6 +1,8 @@
 // Standard output, line by line, and standard input, with a read that fails told from the end.
 //
 // No contract says what a C function writes, so `print` has none; no other public function is without one.
+#![tactic(auto)]
+
 ghost use Rattle.std.specs.Prelude.{false, ◌≡◌, ◌≤◌, length};
 ghost use Rattle.console.specs.Takes.{Takes};
 

@@ -1,6 +1,8 @@
 // Writes formulas, reads each back in every mode, and prints its text and what was read of it.
 //
 // Where that is not what was written, `differs` is printed.
+#![tactic(auto)]
+
 ghost use Rattle.std.specs.Prelude.{◌≡◌, ◌+◌, ◌≤◌, length};
 ghost use Rattle.writer.specs.Answers.{line_length};
 ghost use Rattle.formula.proofs.Runs.{CountFits};
@@ -19,7 +21,7 @@ const TEXT: usize = 65536;
 const PAGE: usize = 31 + 12 * ROOM;
 
 // A formula but for its clauses. Those are two lists: the weights or groups, 0 where a clause has none, and the literals, a 0 after each clause.
-#[derive(Drop)]
+#[derive(Clone, Copy)]
 struct Formula {
     format: Format,
     headed: bool,

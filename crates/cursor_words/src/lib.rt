@@ -1,6 +1,8 @@
 // A cursor as twelve words, which a host keeps from call to call: one for each number that a cursor holds.
 //
 // Any words are taken: those that no opening left hold the cursor that repeats refusal 26.
+#![tactic(auto)]
+
 ghost use Rattle.std.specs.Prelude.{◌≡◌, min};
 ghost use Rattle.formula.specs.Cursors.{unknown};
 ghost use Rattle.cursor_words.specs.Cursors.{format_kind, ends_kind, final_kind, final_refusal, largest_limit, held_ends, held_refusal, held_final, held_in, held_cursor, Holds};

@@ -3,6 +3,8 @@
 // A number is written whole or not at all: where it would end past the output, its place is answered and the output is untouched.
 //
 // Nothing is divided. Digits are found by subtracting powers of ten, from the first to the last, and counted by comparing with them.
+#![tactic(auto)]
+
 ghost use Rattle.std.specs.Prelude.{[], ◌∷◌, ◌≡◌, ◌+◌, ◌-◌, ◌*◌, ◌/◌, ◌%◌, ◌≤◌, ◌<◌, ltb, length};
 ghost use Rattle.dimacs.specs.Writing.{digits, signed_digits};
 ghost use Rattle.decimals.specs.Pieces.{PutAt, if_room};
@@ -156,7 +158,7 @@ fn digit_byte(held: u64) -> u8
 }
 
 // The place past digits that were laid, and what is left of the number behind them.
-#[derive(Drop)]
+#[derive(Clone, Copy)]
 struct Laid {
     place: usize,
     left: u64,

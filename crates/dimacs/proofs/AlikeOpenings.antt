@@ -5,7 +5,7 @@ use mathlib.Core.Path.{◌≡◌, refl, ap}
 use native.Mathlib.Omega.{arith}
 use borrow.Author.Tests.{eqb-true}
 use Rattle.dimacs.specs.Bytes.{bytes, is_not_stop}
-use Rattle.dimacs.specs.Names.{Reason, numbered, refusal, ceiling, largest}
+use Rattle.dimacs.specs.Names.{variable_count_expected, variable_count_too_big, clause_count_expected, clause_count_too_big, third_count_expected, third_count_too_big, Reason, numbered, refusal, ceiling, largest}
 use Rattle.dimacs.specs.Tokens.{unmoved, blanks, lines, word, uint_at, end_of_line, line_ends}
 use Rattle.dimacs.specs.Header.{has_header, has_third, format_word, header_of, counted, header_end, third_there, third_count, clause_count, variable_count, after_p, opening_of}
 use Rattle.dimacs.specs.Seen.{word_seen, opening_seen}
@@ -62,16 +62,16 @@ module _ {n : ℕ} {s t : List ℕ} (a : Alike n s t) where
   unfolding third_count third_there
   third_same f v c at o =
       tested (has_third f)
-      (λ y. rw y (counted_same _ _ largest at _ _ (λ x e o. header_end_same (header_of v c x) e o)))
+      (λ y. rw y (counted_same third_count_expected third_count_too_big largest at _ _ (λ x e o. header_end_same (header_of v c x) e o)))
       (λ y. rw y (header_end_same (header_of v c 0) at o))
 
   clause_count_same : (f : Format) (v at : ℕ) → Follows at (clause_count s f v at) (clause_count t f v at)
   unfolding clause_count
-  clause_count_same f v at = counted_same _ _ largest at _ _ (λ c e o. third_same f v c e o)
+  clause_count_same f v at = counted_same clause_count_expected clause_count_too_big largest at _ _ (λ c e o. third_same f v c e o)
 
   variable_count_same : (f : Format) (at : ℕ) → Follows at (variable_count s f at) (variable_count t f at)
   unfolding variable_count
-  variable_count_same f at = counted_same _ _ ceiling at _ _ (λ v e _. clause_count_same f v e)
+  variable_count_same f at = counted_same variable_count_expected variable_count_too_big ceiling at _ _ (λ v e _. clause_count_same f v e)
 
   after_p_same : (f : Format) (at : ℕ) → Follows at (after_p s f at) (after_p t f at)
   unfolding after_p numbered

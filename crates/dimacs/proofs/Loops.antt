@@ -33,9 +33,9 @@ after_is Q (answer a) f h = h
 
 pub loop_after : {S A : Type 0} (step : S → Step S A) (over : A) (n : ℕ) (s : S) → loop step over (suc n) s ≡ after (step s) (loop step over n)
 unfolding loop
-loop_after step over n s = go (step s)
+loop_after {S} {A} step over n s = go (step s)
   where
-    go : (t : Step _ _) → (elim t as (λ _. _) [ again s' ↦ loop step over n s' | answer a ↦ a ]) ≡ after t (loop step over n)
+    go : (t : Step S A) → (elim t as (λ _. A) [ again s' ↦ loop step over n s' | answer a ↦ a ]) ≡ after t (loop step over n)
     go (again s') = refl
     go (answer a) = refl
 
@@ -122,9 +122,9 @@ Lowers μ s = Gives (λ a s'. μ s' < μ s) (λ a. Unit {0})
 
 said_on : {S A : Type 0} (turn : S → Turn S A) (n : ℕ) (s : S) → said turn (suc n) s ≡ and_on (turn s) (said turn n)
 unfolding said
-said_on turn n s = go (turn s)
+said_on {S} {A} turn n s = go (turn s)
   where
-    go : (t : Turn _ _) → (elim t as (λ _. _) [ on a s' ↦ a ∷ said turn n s' | last a ↦ a ∷ [] ]) ≡ and_on t (said turn n)
+    go : (t : Turn S A) → (elim t as (λ _. List A) [ on a s' ↦ a ∷ said turn n s' | last a ↦ a ∷ [] ]) ≡ and_on t (said turn n)
     go (on a s') = refl
     go (last a) = refl
 

@@ -175,8 +175,8 @@ module _ (s : List ℕ) (f : Format) (limits : Limits) (room count : ℕ) where
   may_go_on = eqb limits.clauses 0 || not (leb limits.clauses count)
 
   -- A clause if one may come, else a comment, else a line end, else the end or refusal 9; and again after a comment or line end.
-  abbrev pub in_order_lem : ℕ → Step ℕ Answered
-  in_order_lem at =
+  abbrev pub in_order : ℕ → Step ℕ Answered
+  in_order at =
       cond (may_go_on && stands s limits f at) (answer (clause_at s limits room f may_end at))
       (cond (unmoved at (comment s at)) (cond (unmoved at (newline s at)) (answer (instead (absent s may_end at))) (again (newline s at))) (again (comment s at)))
 
@@ -193,10 +193,10 @@ module _ (s : List ℕ) (f : Format) (limits : Limits) (room count : ℕ) where
   by_count false true at = refl
   by_count false false at = tested (stands s limits f at) (λ h. rw h) (λ h. rw (h, no_clause s limits room f NoClause at h))
 
-  in_order_lem : (over : Answered) (n at : ℕ) → length s - at < n → loop in_order_lem over n at ≡ tried (lines s at)
+  in_order_lem : (over : Answered) (n at : ℕ) → length s - at < n → loop in_order over n at ≡ tried (lines s at)
   in_order_lem over zero at h = absurd (omega arith)
   in_order_lem over (suc n) at h =
-      loop_after in_order_lem over n at
+      loop_after in_order over n at
       ∙ tested (unmoved at (comment s at))
       (λ c. tested (unmoved at (newline s at))
       (λ d. rw (lines_in_order s at, c, d) (go (may_go_on && stands s limits f at) (clause_at s limits room f may_end at) (instead (absent s may_end at)) (by_count (eqb limits.clauses 0) (leb limits.clauses count) at)))
@@ -206,11 +206,11 @@ module _ (s : List ℕ) (f : Format) (limits : Limits) (room count : ℕ) where
       skips : OpensLine (get_or s at 0) → may_go_on && stands s limits f at ≡ false
       skips o = and_false may_go_on (stands s limits f at) (none_stands s limits f at (line_no_number s at o))
 
-      go : (t : Bool) (x y : Answered) {z : Answered} → cond t x y ≡ z → after (cond t (answer x) (answer y)) (loop in_order_lem over n) ≡ z
+      go : (t : Bool) (x y : Answered) {z : Answered} → cond t x y ≡ z → after (cond t (answer x) (answer y)) (loop in_order over n) ≡ z
       go true x y e = e
       go false x y e = e
 
   -- Whatever `over` is, the steps suffice and it is not the answer.
-  pub next_in_order : (over : Answered) (at : ℕ) → loop in_order_lem over (suc (length s)) (blanks s at) ≡ next_clause s f limits room count at
+  pub next_in_order : (over : Answered) (at : ℕ) → loop in_order over (suc (length s)) (blanks s at) ≡ next_clause s f limits room count at
   unfolding next_clause
   next_in_order over at = in_order_lem over (suc (length s)) (blanks s at) (omega arith)

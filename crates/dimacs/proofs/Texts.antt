@@ -8,7 +8,7 @@ use lib.Dec.{leb, eqb}
 use lib.ListN.{length}
 use lib.IntN.{ℤ}
 use Rattle.dimacs.specs.Bytes.{bytes}
-use Rattle.dimacs.specs.Names.{Reason, numbered, refusal, ceiling, largest}
+use Rattle.dimacs.specs.Names.{variable_count_expected, variable_count_too_big, clause_count_expected, clause_count_too_big, third_count_expected, third_count_too_big, Reason, numbered, refusal, ceiling, largest}
 use Rattle.dimacs.specs.Lined.{lined}
 use Rattle.dimacs.specs.Tokens.{unmoved, blanks, lines, word, uint_at, end_of_line, line_ends}
 use Rattle.dimacs.specs.Header.{has_header, has_third, format_word, header_of, counted, header_end, third_there, third_count, clause_count, variable_count, after_p, opening_of, unlimited, limits_of}
@@ -65,16 +65,16 @@ module _ (s : List ℕ) where
   third_opens : (f : Format) (v c at : ℕ) → v ≤ ceiling → c ≤ largest → at ≤ length s → Opens s (third_count s f v c at)
   unfolding third_count third_there
   third_opens f v c at k o l =
-      chosen (Opens s) (has_third f) (λ _. counted_opens _ _ largest at _ l (λ t e n m. header_end_opens (header_of v c t) e k n o m))
+      chosen (Opens s) (has_third f) (λ _. counted_opens third_count_expected third_count_too_big largest at _ l (λ t e n m. header_end_opens (header_of v c t) e k n o m))
       (λ _. header_end_opens (header_of v c 0) at k (omega arith) o l)
 
   clause_count_opens : (f : Format) (v at : ℕ) → v ≤ ceiling → at ≤ length s → Opens s (clause_count s f v at)
   unfolding clause_count
-  clause_count_opens f v at k l = counted_opens _ _ largest at _ l (λ c e o m. third_opens f v c e k o m)
+  clause_count_opens f v at k l = counted_opens clause_count_expected clause_count_too_big largest at _ l (λ c e o m. third_opens f v c e k o m)
 
   variable_count_opens : (f : Format) (at : ℕ) → at ≤ length s → Opens s (variable_count s f at)
   unfolding variable_count
-  variable_count_opens f at l = counted_opens _ _ ceiling at _ l (λ v e k m. clause_count_opens f v e k m)
+  variable_count_opens f at l = counted_opens variable_count_expected variable_count_too_big ceiling at _ l (λ v e k m. clause_count_opens f v e k m)
 
   pub opening_opens : (f : Format) → Opens s (opening_of s f)
   unfolding opening_of after_p numbered

@@ -1,5 +1,7 @@
 // The words that every layer shares: bounds, formats and modes, reasons for a refusal, and the small answers of tokens.
 // The written definition in specs/ is over these same types, so that a contract equates an answer with a definition.
+#![tactic(auto)]
+
 ghost use Rattle.std.specs.Prelude.{◌≡◌, ◌<◌, eqb, nat_abs, length};
 ghost use Rattle.dimacs.specs.Bytes.{LF};
 ghost use Rattle.dimacs.specs.Spots.{spot_of};
@@ -25,7 +27,7 @@ pub const ROOM: usize = 1024;
 pub const PLACES: usize = 32;
 
 // A text of clauses is plain, or each clause has a weight, or each has a group, or each is hard or has a weight, as in the 2022 form.
-#[derive(Drop)]
+#[derive(Clone, Copy)]
 pub enum Format {
     Plain,
     Weighted,
@@ -37,34 +39,35 @@ pub enum Format {
 pub const LOG_FORMAT: u8 = 3;
 
 // A lenient reading applies no count of a header, and passes over log lines of no permitted kind.
-#[derive(Drop)]
+#[derive(Clone, Copy)]
 pub enum Rigor {
     Strict,
     Lenient,
 }
 
 // What ends a line: LF and CR LF; or these, and a CR that no LF follows.
-#[derive(Drop)]
+#[derive(Clone, Copy)]
 pub enum Ends {
     LineFeed,
     AlsoReturn,
 }
 
 // How a text is read.
-#[derive(Drop)]
+#[derive(Clone, Copy)]
 pub struct Mode {
     pub rigor: Rigor,
     pub ends: Ends,
 }
 
 // What the numbers of a format and a mode name: nothing, a text of clauses, or a log.
-#[derive(Drop)]
+#[derive(Clone, Copy)]
 pub enum Kind {
     Unknown,
     Clauses(Format, Mode),
     Log(Mode),
 }
 
+#[tactic(auto, unfolding(crate::specs::Names::kind_in))]
 fn kind_in(format: u8, rigor: Rigor, ends: Ends) -> Kind
     ensures { result ≡ kind_in (in_mode rigor ends) format }
 {
@@ -80,6 +83,7 @@ fn kind_in(format: u8, rigor: Rigor, ends: Ends) -> Kind
 }
 
 // What the numbers of a format and a mode name. Every call that takes such numbers asks here.
+#[tactic(auto, unfolding(crate::specs::Names::kind_of))]
 pub fn kind_of(format: u8, mode: u8) -> Kind
     ensures { result ≡ kind_of format mode }
 {
@@ -193,7 +197,7 @@ pub const WEIGHT_ZERO: u8 = 32;
 pub const HEADER_NOT_EXPECTED: u8 = 33;
 
 // A refusal: its number, the place at fault, and the line and the column of that place, or 0 and 0 where no text is at fault.
-#[derive(Drop)]
+#[derive(Clone, Copy)]
 pub struct Refusal {
     pub number: u8,
     pub place: usize,
@@ -202,7 +206,7 @@ pub struct Refusal {
 }
 
 // The line and the column of a place, both counted from 1.
-#[derive(Drop)]
+#[derive(Clone, Copy)]
 pub struct Spot {
     pub line: usize,
     pub column: usize,
@@ -297,7 +301,7 @@ pub fn magnitude(literal: i32) -> u64
 }
 
 // An unsigned number at a place: none, its value and the place past it and the blanks after it, or one above its limit.
-#[derive(Drop)]
+#[derive(Clone, Copy)]
 pub enum Uint {
     Missing,
     Value(u64, usize),
@@ -305,7 +309,7 @@ pub enum Uint {
 }
 
 // A signed number at a place: none; the 0 or a literal, and the place past it and the blanks after it; or one beyond its limit.
-#[derive(Drop)]
+#[derive(Clone, Copy)]
 pub enum Int {
     Missing,
     Zero(usize),
@@ -314,14 +318,14 @@ pub enum Int {
 }
 
 // What may close a line, a line end or the end of the text: neither, or the place past it.
-#[derive(Drop)]
+#[derive(Clone, Copy)]
 pub enum EndOfLine {
     Missing,
     Past(usize),
 }
 
 // What a header says: the counts of variables and clauses, and the top weight or the count of groups, or 0 where the format has no third.
-#[derive(Drop)]
+#[derive(Clone, Copy)]
 pub struct Header {
     pub variables: u64,
     pub clauses: u64,
@@ -329,7 +333,7 @@ pub struct Header {
 }
 
 // The limits of a text: of literals either way, of groups, and of clauses, where 0 is no limit.
-#[derive(Drop)]
+#[derive(Clone, Copy)]
 pub struct Limits {
     pub literals: u32,
     pub groups: u64,
@@ -337,7 +341,7 @@ pub struct Limits {
 }
 
 // How a text of clauses opens: with a header or with none, and the place where the clauses begin; or with a header that is refused.
-#[derive(Drop)]
+#[derive(Clone, Copy)]
 pub enum Opening {
     Header(Header, usize),
     NoHeader(usize),
@@ -345,7 +349,7 @@ pub enum Opening {
 }
 
 // What it means that no number stands at a place: the text may end there; or there is no clause; or there are no literals after a weight, a group or the word `h`.
-#[derive(Drop)]
+#[derive(Clone, Copy)]
 pub enum Absence {
     MayEnd,
     NoClause,
@@ -353,14 +357,14 @@ pub enum Absence {
 }
 
 // What is answered where no clause stands: the end, at its place, or a refusal.
-#[derive(Drop)]
+#[derive(Clone, Copy)]
 pub enum Instead {
     Ended(usize),
     Refused(Refusal),
 }
 
 // The answer that later calls repeat, once there is one.
-#[derive(Drop)]
+#[derive(Clone, Copy)]
 pub enum Final {
     Open,
     Ended,
@@ -368,7 +372,7 @@ pub enum Final {
 }
 
 // How far a text of clauses is read: the next place, the clauses read, and the final answer once there is one.
-#[derive(Drop)]
+#[derive(Clone, Copy)]
 pub struct Progress {
     pub place: usize,
     pub count: u64,
@@ -376,7 +380,7 @@ pub struct Progress {
 }
 
 // What a log says of its formula: satisfiable, unsatisfiable, or that the solver does not know; or nothing, as no solution line stands.
-#[derive(Drop)]
+#[derive(Clone, Copy)]
 pub enum Verdict {
     Yes,
     No,
@@ -385,7 +389,7 @@ pub enum Verdict {
 }
 
 // A log's assignment has no line yet, or waits for its 0, or is closed by it.
-#[derive(Drop)]
+#[derive(Clone, Copy)]
 pub enum Assignment {
     Unbegun,
     Begun,

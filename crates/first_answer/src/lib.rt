@@ -1,11 +1,13 @@
 // The first answer of a text, for callers who hold no reader: one is made and asked here.
+#![tactic(auto)]
+
 ghost use Rattle.first_answer.specs.Firsts.{ReadsFirst};
 
 use clause::Next;
 use dimacs::Opening;
 
 // How a text opens, its first answer, and the place after it.
-#[derive(Drop)]
+#[derive(Clone, Copy)]
 pub struct First {
     pub opening: Opening,
     pub answer: Next,

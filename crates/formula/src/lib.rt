@@ -1,6 +1,8 @@
 // Texts of clauses in each format, read clause by clause in a mode.
 //
 // `open` answers how the text opens, and a cursor. Each `next_clause` answers a clause, the end or a refusal, and the cursor to go on with.
+#![tactic(auto)]
+
 ghost use Rattle.std.specs.Prelude.{◌≡◌, length};
 ghost use Rattle.dimacs.specs.Names.{own_room};
 ghost use Rattle.dimacs.specs.Lined.{lined};
@@ -17,7 +19,7 @@ use dimacs::{
 };
 
 // Where a text is read: how far it is read, the limits of its clauses, its format, and what ends its lines.
-#[derive(Drop)]
+#[derive(Clone, Copy)]
 pub struct Cursor {
     pub progress: Progress,
     pub limits: Limits,
@@ -26,14 +28,14 @@ pub struct Cursor {
 }
 
 // How a text opens, and the cursor with which its clauses begin.
-#[derive(Drop)]
+#[derive(Clone, Copy)]
 pub struct Opened {
     pub opening: Opening,
     pub cursor: Cursor,
 }
 
 // An answer, and the cursor to go on with.
-#[derive(Drop)]
+#[derive(Clone, Copy)]
 pub struct Stepped {
     pub answer: Next,
     pub cursor: Cursor,
@@ -245,7 +247,7 @@ impl Cursor {
 }
 
 // What a whole text comes to.
-#[derive(Drop)]
+#[derive(Clone, Copy)]
 pub enum Outcome {
     // It is read to its end.
     Read,

@@ -1,6 +1,8 @@
 // Numbers from the bytes of a frame, little-endian, and the smaller of two sizes.
 //
 // A byte beyond the end of a frame counts as 0, so that every place has a number.
+#![tactic(auto)]
+
 ghost use Rattle.std.specs.Prelude.{◌≡◌, ◌+◌, ◌*◌, min, get_or};
 ghost use Rattle.std.specs.Int.{Width};
 ghost use Rattle.std.proofs.Common.{to_z};

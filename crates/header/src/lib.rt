@@ -1,4 +1,6 @@
 // The opening of a text of clauses: its header, if it has one, and the limits that the header sets.
+#![tactic(auto)]
+
 ghost use Rattle.std.specs.Prelude.{◌≡◌, ◌≤◌};
 ghost use Rattle.dimacs.specs.Names.{numbered, ceiling};
 ghost use Rattle.dimacs.specs.Lined.{lined};
@@ -177,7 +179,7 @@ fn limits_of(format: Format, rigor: Rigor, header: Header) -> Limits
 }
 
 // How a text opens, and the limits of its clauses.
-#[derive(Drop)]
+#[derive(Clone, Copy)]
 pub struct Headed {
     pub opening: Opening,
     pub limits: Limits,

@@ -1,6 +1,8 @@
 // Runs framed cases from standard input through the host calls.
 //
 // A frame is format, mode and length, of four bytes each, little-endian, and then so many bytes of text. Each is answered by a line: the number of the refusal or 0, and its place or the text's length, by a call each; and number, place, line and column as `latchtwig_check` leaves them. A frame that is cut off, or whose text is too long, is `cut`, and an input that cannot be read is `unreadable`; nothing follows them.
+#![tactic(auto)]
+
 ghost use Rattle.latchtwig.specs.Outcomes.{outcome, words_told};
 ghost use Rattle.pages.specs.Pages.{Lays};
 ghost use Rattle.host_cases.specs.Answers.{printed_numbers, outcome_line};
@@ -48,7 +50,7 @@ fn outcome_line(page: &mut [u8], at: usize, format: u32, mode: u32, text: &[u8])
 }
 
 // What a frame says before its text.
-#[derive(Drop)]
+#[derive(Clone, Copy)]
 struct Head {
     format: u32,
     mode: u32,

@@ -1,6 +1,8 @@
 // The calls for callers in other languages that judge a whole text, by number and byte slice.
 //
 // Each takes format and mode by number. `latchtwig_c` exports them by the C calling convention; host/latchtwig.h declares them for C, host/rust for Rust.
+#![tactic(auto)]
+
 ghost use Rattle.std.specs.Prelude.{◌≡◌};
 ghost use Rattle.latchtwig.specs.Outcomes.{outcome_of_log, outcome, number_told, place_told, words_told, Checks};
 

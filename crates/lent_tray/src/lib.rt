@@ -1,4 +1,6 @@
 // The calls of the tray on a tray that is lent: each answers what the call on the tray itself answers, and leaves the tray that it leaves.
+#![tactic(auto)]
+
 ghost use Rattle.std.proofs.Math.ListN as list;
 ghost use Rattle.lent_tray.specs.Lent.{LentPut, LentTurn, LentWithdrawal};
 

@@ -1,4 +1,6 @@
 // The lines that several programs print, laid into a lent page as `pages` lays words and numbers.
+#![tactic(auto)]
+
 ghost use Rattle.std.specs.Prelude.{[]};
 ghost use Rattle.dimacs.specs.Writing.{third_digits};
 ghost use Rattle.pages.specs.Pages.{Lays};

@@ -1,4 +1,6 @@
 // Lists a strict plain text from standard input: its header, its clauses, and how it ends.
+#![tactic(auto)]
+
 use clause::Next;
 use console::Taken;
 use dimacs::{Format, Opening};

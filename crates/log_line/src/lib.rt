@@ -1,4 +1,6 @@
 // The lines of a solver log: what each kind of line leads to, with its literals read into a lent buffer.
+#![tactic(auto)]
+
 ghost use Rattle.std.specs.Prelude.{◌≡◌, length, take};
 ghost use Rattle.dimacs.specs.Lined.{lined};
 ghost use Rattle.dimacs.specs.Logs.{line_read, solution_line, log_end, other_line, value_line};
@@ -13,7 +15,7 @@ use dimacs::{
 use rows::Row;
 
 // What a log comes to.
-#[derive(Drop)]
+#[derive(Clone, Copy)]
 pub enum Log {
     // The solver's verdict, and how many literals of the assignment the buffer holds.
     Accepted { verdict: Verdict, count: usize },
@@ -22,7 +24,7 @@ pub enum Log {
 }
 
 // Where a log is read: the place, the verdict so far, how far the assignment is, and how many literals the buffer holds.
-#[derive(Drop)]
+#[derive(Clone, Copy)]
 pub struct Reading {
     pub place: usize,
     pub verdict: Verdict,
@@ -31,7 +33,7 @@ pub struct Reading {
 }
 
 // What a line leads to: where the next is read, or the answer.
-#[derive(Drop)]
+#[derive(Clone, Copy)]
 pub enum Line {
     Again(Reading),
     Answer(Log),

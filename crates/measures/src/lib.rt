@@ -1,4 +1,6 @@
 // What is measured of a line before its first byte is put: whether its literals can be written, and how long it will be.
+#![tactic(auto)]
+
 ghost use Rattle.std.specs.Prelude.{◌≡◌, ◌+◌, ◌-◌, length};
 ghost use Rattle.dimacs.specs.Tokens.{run};
 ghost use Rattle.dimacs.specs.Writing.{items, lead, third_digits, is_literal, header_line};

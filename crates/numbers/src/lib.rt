@@ -1,4 +1,6 @@
 // The numbers of a host as bytes, which name formats and modes.
+#![tactic(auto)]
+
 ghost use Rattle.std.specs.Prelude.{◌≡◌, min};
 
 // The largest byte. It names no format and no mode.

@@ -1,5 +1,7 @@
 // Numbers: what a run of digits at a place of a lent text writes, and whether it is within a limit. Any bytes and any place are taken, also a place past the text's end.
 // The names are those of token.rs.
+#![tactic(auto)]
+
 ghost use Rattle.std.specs.Prelude.{◌≡◌, ◌≤◌, ◌<◌, ◌+◌, ◌-◌, ◌*◌, ltb, length};
 ghost use Rattle.dimacs.specs.Names.{ceiling, largest};
 ghost use Rattle.dimacs.specs.Bytes.{is_digit};
@@ -15,7 +17,7 @@ const TENTH: u64 = 1844674407370955161;
 const FEW: usize = 8;
 
 // What a run of digits writes, and where it ends.
-#[derive(Drop)]
+#[derive(Clone, Copy)]
 pub enum Digits {
     Value { value: u64, end: usize },
     // It is above 64 bits.

@@ -2,6 +2,8 @@
 //
 // Each function lays a piece at a place and answers the place past it. A piece is cut off where the page ends, so that every place and every page will do, and
 // what is laid from the place answered goes on where the piece stopped.
+#![tactic(auto)]
+
 ghost use Rattle.std.specs.Prelude.{[], ◌∷◌, ◌≡◌, ◌<◌, take};
 ghost use Rattle.dimacs.specs.Writing.{digits, signed_digits};
 ghost use Rattle.pages.specs.Pages.{Lays};

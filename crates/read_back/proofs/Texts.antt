@@ -11,7 +11,7 @@ use lib.ListN.{length, get_or}
 use Rattle.dimacs.specs.Leniency.{Each}
 use Rattle.dimacs.specs.Names.{ceiling, largest}
 use Rattle.dimacs.specs.Clauses.{Answered, ended, says, instead, absent, clause_at}
-use Rattle.dimacs.specs.Texts.{progress, one_more_lem, next_clause, answer_at, settled, turn_by_lem, turn, answers_from}
+use Rattle.dimacs.specs.Texts.{progress, one_more, next_clause, answer_at, settled, turn_by, turn, answers_from}
 use Rattle.dimacs.specs.Writing.{clause_line}
 use Rattle.dimacs.specs.declared.Format.{Format}
 use Rattle.dimacs.specs.declared.Absence.TheVariants.{MayEnd, NoClause}
@@ -34,7 +34,7 @@ lines_open f (c ∷ cs) = line_opens f c.extra c.literals (clause_lines f cs)
 abbrev pub Counts : ℕ → ℕ → ℕ → Type 0
 Counts limit count n = (limit ≡ 0) ⊎ ((limit ≡ count + n) × (limit ≤ largest))
 
-one_more_lem : (limit count n : ℕ) → Counts limit count (suc n) → Counts limit (one_more_lem count) n
+one_more_lem : (limit count n : ℕ) → Counts limit count (suc n) → Counts limit (one_more count) n
 one_more_lem limit count n (inl e) = inl e
 one_more_lem limit count n (inr e) = rw (lt-ltb count largest (omega arith)) (inr (omega arith, e.1))
 
@@ -63,7 +63,7 @@ module _ (s : List ℕ) (f : Format) (limits : Limits) (low : limits.literals �
       (λ z. rw (lt-leb limits.clauses count (⊎_elim (λ e. absurd (z e)) (λ e. omega arith) n)) (read NoClause))
 
   turn_by_lem : (at count : ℕ) (d : Answered) → next_clause s f limits room count at ≡ d
-      → turn s f limits room (progress at count final.Open) ≡ turn_by_lem (settled (progress at count final.Open) d) d.answer
+      → turn s f limits room (progress at count final.Open) ≡ turn_by (settled (progress at count final.Open) d) d.answer
   unfolding turn answer_at
   turn_by_lem at count d e = rw e
 
@@ -79,4 +79,4 @@ module _ (s : List ℕ) (f : Format) (limits : Limits) (low : limits.literals �
       answers_step s f limits room (progress at count final.Open)
       ∙ rw (turn_by_lem at count _ (next_line_lem c t count (length cs) n k.0 h))
       (ap (λ l. answer_of c ∷ l)
-      (answers_written cs (one_more_lem count) (one_more_lem limits.clauses count (length cs) n) k.1 (ends_past (clause_line f c.extra c.literals) t h)))
+      (answers_written cs (one_more count) (one_more_lem limits.clauses count (length cs) n) k.1 (ends_past (clause_line f c.extra c.literals) t h)))

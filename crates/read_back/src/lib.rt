@@ -1,1 +1,2 @@
 // Theorems only: what the writers' definition writes, the readers' definition reads back.
+#![tactic(auto)]

@@ -1,6 +1,8 @@
 // Texts of clauses, read by a reader that holds its text: what `formula` does with a text beside a cursor, for callers who would rather carry one thing.
 //
 // `open` answers how the text opens, and a reader. Each `next_clause` answers a clause, the end or a refusal, and the reader goes on.
+#![tactic(auto)]
+
 ghost use Rattle.std.specs.Prelude.{◌≡◌};
 ghost use Rattle.token.specs.Words.{WordAt};
 ghost use Rattle.reader.specs.Readers.{opened_on, Reads};
@@ -10,14 +12,14 @@ use dimacs::Opening;
 use formula::Cursor;
 
 // A text, and the cursor with which it is read.
-#[derive(Drop)]
+#[derive(Clone, Copy)]
 pub struct Reader<'a> {
     pub text: &'a [u8],
     pub cursor: Cursor,
 }
 
 // How a text opens, and the reader of its clauses.
-#[derive(Drop)]
+#[derive(Clone, Copy)]
 pub struct Opened<'a> {
     pub opening: Opening,
     pub reader: Reader<'a>,

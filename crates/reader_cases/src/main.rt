@@ -2,6 +2,8 @@
 //
 // A frame is format, mode, room and length, of one, one, four and four bytes, little-endian, and then so many
 // bytes of text. Each is answered by `case N` and what the reader of its format says of the text, line by line.
+#![tactic(auto)]
+
 ghost use Rattle.std.specs.Prelude.{length};
 ghost use Rattle.formula.proofs.Runs.{CountFits};
 
@@ -195,7 +197,7 @@ fn long(length: usize) -> bool {
 }
 
 // What a frame says before its text.
-#[derive(Drop)]
+#[derive(Clone, Copy)]
 struct Head {
     format: u8,
     mode: u8,

@@ -1,6 +1,8 @@
 // The ring of jobs that a tray is made of: who waits in its places, the job at the front, and how a ticket leaves from the midst.
 //
 // Any record of these types is a ring: its head is taken modulo the places, and it counts no more jobs than there are places.
+#![tactic(auto)]
+
 ghost use Rattle.std.specs.Prelude.{◌≡◌, ◌-◌, ◌≤◌, ◌<◌};
 ghost use Rattle.dimacs.specs.Names.{places};
 ghost use Rattle.ring.specs.Ring as def;
@@ -11,7 +13,7 @@ use formula::Cursor;
 use service::{Goes, Stage};
 
 // A job: its ticket, the part of the area that is its text, and how far that is read.
-#[derive(Drop)]
+#[derive(Clone, Copy)]
 pub struct Job {
     pub ticket: u64,
     pub start: usize,
@@ -20,7 +22,7 @@ pub struct Job {
 }
 
 // The places, the one where the round begins, how many jobs wait from there on, and how many tickets were given.
-#[derive(Drop)]
+#[derive(Clone, Copy)]
 pub struct Tray {
     pub jobs: [Job; PLACES],
     pub head: usize,
@@ -61,7 +63,7 @@ pub fn how_many(tray: Tray) -> usize
 }
 
 // The job whose turn is next, if one waits.
-#[derive(Drop)]
+#[derive(Clone, Copy)]
 pub enum Front {
     Nothing,
     Waits(Job),
@@ -170,7 +172,7 @@ fn close_up(mut tray: Tray, count: usize, from: usize) -> Tray
 }
 
 // The tray after a ticket was to leave, and whether its job waited.
-#[derive(Drop)]
+#[derive(Clone, Copy)]
 pub struct TakenOut {
     pub tray: Tray,
     pub found: bool,

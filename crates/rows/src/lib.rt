@@ -1,4 +1,6 @@
 // A row of literals, read into a lent buffer after those that it holds.
+#![tactic(auto)]
+
 ghost use Rattle.std.specs.Prelude.{length, take};
 ghost use Rattle.dimacs.specs.Lined.{lined};
 ghost use Rattle.dimacs.specs.Rows.{reads, row};
@@ -7,7 +9,7 @@ ghost use Rattle.rows.specs.Answers.{ReadsRow};
 use dimacs::{BUFFER_FULL, Ends, Int, LITERAL_TOO_BIG, Refusal, refuse};
 
 // What a row comes to, each with how many literals the buffer holds.
-#[derive(Drop)]
+#[derive(Clone, Copy)]
 pub enum Row {
     // It ends at a place where no number stands.
     Ends { place: usize, count: usize },

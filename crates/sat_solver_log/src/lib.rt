@@ -1,4 +1,6 @@
 // Solver logs: a verdict, and an assignment read into a lent buffer of literals.
+#![tactic(auto)]
+
 ghost use Rattle.std.specs.Prelude.{◌≡◌, ◌≤◌, length, take};
 ghost use Rattle.dimacs.specs.Names.{log_format, kind_of};
 ghost use Rattle.dimacs.specs.Lined.{lined};

@@ -1,4 +1,6 @@
 // Serving a job: its part of a lent area is opened at its first turn, and asked for the next clause at each later one.
+#![tactic(auto)]
+
 ghost use Rattle.std.specs.Prelude.{◌≡◌};
 ghost use Rattle.std.proofs.Math.ListN as list;
 ghost use Rattle.service.specs.Serving as def;
@@ -9,7 +11,7 @@ use dimacs::{Format, Mode, Opening, PART_OUTSIDE_AREA, refuse_call};
 use formula::{Cursor, Opened, Stepped};
 
 // A job before its first turn, with its format and mode, or between turns, with its cursor.
-#[derive(Drop)]
+#[derive(Clone, Copy)]
 pub enum Stage {
     Fresh(Format, Mode),
     Reading(Cursor),
@@ -36,21 +38,21 @@ pub fn within(start: usize, length: usize, lent: usize) -> bool
 }
 
 // What the reader said at a turn: how the text opens, or the answer to a call for the next clause.
-#[derive(Drop)]
+#[derive(Clone, Copy)]
 pub enum Said {
     Opening(Opening),
     Next(Next),
 }
 
 // Whether a job goes on, with its cursor.
-#[derive(Drop)]
+#[derive(Clone, Copy)]
 pub enum Goes {
     On(Cursor),
     Over,
 }
 
 // What was said to a job, and how it goes on.
-#[derive(Drop)]
+#[derive(Clone, Copy)]
 pub struct Served {
     pub said: Said,
     pub goes: Goes,

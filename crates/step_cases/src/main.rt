@@ -1,6 +1,8 @@
 // Reads framed texts of any format from standard input through the calls for C and Rust, clause by clause, and prints what they leave.
 //
 // A frame, and what is printed of it, are those of `reader_cases`.
+#![tactic(auto)]
+
 use answer_words::{LOG_WORDS, NEXT_WORDS, OPENING_WORDS};
 use console::{Taken, stop};
 use cursor_words::WORDS;
@@ -197,7 +199,7 @@ fn long(length: usize) -> bool {
 }
 
 // What a frame says before its text.
-#[derive(Drop)]
+#[derive(Clone, Copy)]
 struct Head {
     format: u8,
     mode: u8,

@@ -1,6 +1,8 @@
 // Texts read clause by clause, and logs, for callers in other languages: the cursor is lent as words, and what a call answers is left as words.
 //
 // Each call takes formats and modes by number. `stepwise_c` exports them by the C calling convention; host/latchtwig.h declares them for C, host/rust for Rust.
+#![tactic(auto)]
+
 ghost use Rattle.std.specs.Prelude.{◌≡◌, length};
 ghost use Rattle.dimacs.specs.Names.{log_format, kind_of};
 ghost use Rattle.stepwise.specs.Calls.{Opens, Nexts, Logs, word_by};

@@ -1,5 +1,7 @@
 // Tokens: which word, comment or line end stands at a place of a lent text. Any bytes and any place are taken, also a place past the text's end.
 // A function answers the place past the token, or the place itself where there is none. The names are those of token.rs.
+#![tactic(auto)]
+
 ghost use Rattle.std.specs.Prelude.{◌≡◌, ◌<◌, length};
 ghost use Rattle.dimacs.specs.Lined.{lined};
 ghost use Rattle.dimacs.specs.Tokens.{at_end, blanks, line_end, next_line, end_of_line, fixed, word_ends, word, strict_comment, newline, line_past, lines, linebreaks};

@@ -4,6 +4,8 @@
 // and the limit as eight bytes each, little-endian, and a byte that is not 0 where a lone CR ends a line. A line has their answers in the order below: a place as it is, a test as 0 or 1,
 // a number as `value@place`, `-` where there is none and `!` where it is too big, and a space after each. A case that is cut off is `cut`, and an input
 // that cannot be read is `unreadable`; nothing follows them.
+#![tactic(auto)]
+
 ghost use Rattle.std.specs.Prelude.{◌≡◌, ◌≤◌};
 ghost use Rattle.pages.specs.Pages.{Lays};
 ghost use Rattle.pages.specs.Printed.{printed_number};

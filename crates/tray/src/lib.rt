@@ -2,6 +2,8 @@
 //
 // `put` gives a part of a lent area a ticket. Each `turn` serves the job at the front: its first turn opens its text, each later one asks for the
 // next clause. A job leaves with its verdict, the end or a refusal, or by `withdraw`; else it goes to the back.
+#![tactic(auto)]
+
 ghost use Rattle.std.specs.Prelude.{◌≡◌, ◌≤◌};
 ghost use Rattle.std.proofs.Math.ListN as list;
 ghost use Rattle.dimacs.specs.Names.{own_room};
@@ -19,14 +21,14 @@ use service::{Goes, Said, Served, Stage};
 pub use ring::{Front, Job, Tray, empty, front_job, how_many};
 
 // What a put answers: a refusal's number, or the new ticket.
-#[derive(Drop)]
+#[derive(Clone, Copy)]
 pub enum PutAnswer {
     Refused(u8),
     Ticket(u64),
 }
 
 // A put's answer, and the tray after it.
-#[derive(Drop)]
+#[derive(Clone, Copy)]
 pub struct PutDone {
     pub tray: Tray,
     pub answer: PutAnswer,
@@ -84,14 +86,14 @@ pub fn put(tray: Tray, format: u8, mode: u8, start: usize, length: usize, area: 
 }
 
 // What a turn answers: a refusal's number; or a ticket, what was said, and whether that is its verdict.
-#[derive(Drop)]
+#[derive(Clone, Copy)]
 pub enum TurnAnswer {
     Refused(u8),
     Told { ticket: u64, said: Said, last: bool },
 }
 
 // A turn's answer, and the tray after it.
-#[derive(Drop)]
+#[derive(Clone, Copy)]
 pub struct TurnDone {
     pub tray: Tray,
     pub answer: TurnAnswer,
@@ -158,14 +160,14 @@ pub fn turn(tray: Tray, area: &[u8], lits: &mut [i32]) -> TurnDone
 }
 
 // What a withdrawal answers: a refusal's number, or the ticket that is withdrawn.
-#[derive(Drop)]
+#[derive(Clone, Copy)]
 pub enum WithdrawAnswer {
     Refused(u8),
     Withdrawn(u64),
 }
 
 // A withdrawal's answer, and the tray after it.
-#[derive(Drop)]
+#[derive(Clone, Copy)]
 pub struct WithdrawDone {
     pub tray: Tray,
     pub answer: WithdrawAnswer,

@@ -4,6 +4,8 @@
 // 0 puts (format and mode of one byte each, start and length of eight), 1 takes a turn (how much of the area and how much of the literal buffer
 // is lent, of four bytes each), 2 withdraws (a ticket of eight), 3 changes a byte of the area (an offset of four, and the byte).
 // Where a read fails, `unreadable` is the last line.
+#![tactic(auto)]
+
 ghost use Rattle.std.specs.Prelude.{◌≤◌};
 
 use console::{Taken, print, stop, take};
@@ -19,7 +21,7 @@ const LONGEST: usize = 18;
 const PAGE: usize = 16384;
 
 // A text to be put.
-#[derive(Drop)]
+#[derive(Clone, Copy)]
 struct Put {
     format: u8,
     mode: u8,
@@ -28,7 +30,7 @@ struct Put {
 }
 
 // A call as the input has it, or none that can be made.
-#[derive(Drop)]
+#[derive(Clone, Copy)]
 enum Call {
     Put(Put),
     Turn { lent: usize, room: usize },

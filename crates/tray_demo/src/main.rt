@@ -3,6 +3,8 @@
 // The area holds the bad text and ten good ones, which come again and again. They wait in a tray of 32 places; the rest are put as places come free.
 // A line is printed for each ticket given and for all that a turn tells it. Beside its verdict stand the turns taken since it was given, and the
 // most that a text of so many bytes can take. Each line is laid into a page, and printed from it.
+#![tactic(auto)]
+
 ghost use Rattle.std.specs.Prelude.{◌≡◌, ◌+◌, ◌*◌, ◌/◌, ◌≤◌};
 ghost use Rattle.std.proofs.Math.ListN as list;
 ghost use Rattle.dimacs.specs.Names.{places};

@@ -1,4 +1,6 @@
 // What a turn tells a job, laid into a lent page, as `lines` lays what a reader says.
+#![tactic(auto)]
+
 ghost use Rattle.std.specs.Prelude.{◌≡◌, take};
 ghost use Rattle.pages.specs.Pages.{Lays};
 ghost use Rattle.tray_lines.specs.Printed.{printed_next, printed_said};

@@ -1,1 +1,2 @@
 // Laws only: what the proofs by hand of functions over references share.
+#![tactic(auto)]

@@ -1,6 +1,8 @@
 // Headers and clauses of each format, written into a lent output.
 //
 // A line is written whole or not at all: a writer answers the length of its line, or a refusal with the output untouched.
+#![tactic(auto)]
+
 ghost use Rattle.std.specs.Prelude.{◌≡◌, ◌+◌, ◌≤◌, eqb, length, ◌&&◌};
 ghost use Rattle.dimacs.specs.Clauses.{has_hard};
 ghost use Rattle.dimacs.specs.Names.{call_numbered};
@@ -19,7 +21,7 @@ use dimacs::{
 use measures::{around_length, header_length, left_after, writable};
 
 // What a writer answers.
-#[derive(Drop)]
+#[derive(Clone, Copy)]
 pub enum Written {
     // The line stands at the output's front, and is so long.
     Line(usize),

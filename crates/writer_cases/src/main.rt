@@ -5,6 +5,8 @@
 // a clause, and the first number its weight or group; kind 2 is a hard clause, whose numbers are not looked at. Each call is answered by `case N` and `written LENGTH BYTES`, the bytes in hexadecimal, or by
 // `refused NUMBER PLACE 0 0 0`. A kind that is none of these is refused as an unknown format is.
 // Too many literals are `long`, and passed over; a frame that is cut off is `cut`, and an input that cannot be read is `unreadable`, and nothing follows them.
+#![tactic(auto)]
+
 ghost use Rattle.pages.specs.Pages.{Lays};
 ghost use Rattle.writer_cases.specs.Answers.{written_line, refused_call_line, call_line};
 
@@ -23,7 +25,7 @@ const OUTPUT: usize = 65536;
 const PAGE: usize = 15 + 2 * OUTPUT;
 
 // What a frame asks for, but for the literals and the output.
-#[derive(Drop)]
+#[derive(Clone, Copy)]
 struct Call {
     format: u8,
     kind: u8,
