@@ -1,6 +1,5 @@
 -- `token::comments_and_newlines` meets its contract: what is past comments and line ends from i is what is past them from the start. Assumes nothing.
-use Prim.Native.Nat.{◌-◌}
-use mathlib.Core.Path.{◌≡◌, sym, ◌∙◌}
+use mathlib.Core.Path.{sym, ◌∙◌}
 use Rattle.dimacs.proofs.Lines.{lines_stop, lines_on}
 use Rattle.dimacs.proofs.LinedTokens.{blanks_lined}
 use Rattle.token.proofs.comments_and_newlines.Goals as goal

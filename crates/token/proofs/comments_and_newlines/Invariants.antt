@@ -1,6 +1,6 @@
 -- `token::comments_and_newlines` meets its contract: what is past comments and line ends from i is what is past them from the start. Assumes nothing.
 use Prim.Native.Nat.{◌-◌}
-use mathlib.Core.Path.{◌≡◌, ◌∙◌}
+use mathlib.Core.Path.{◌≡◌}
 use lib.ListN.{length}
 use Rattle.dimacs.specs.Lined.{lined}
 use Rattle.dimacs.specs.Tokens.{lines}

@@ -1,6 +1,5 @@
 -- `token::fixed` meets its contract: what is left of the word stands at i if all of it stands at the start. Assumes nothing.
-use Prim.Native.Nat.{◌+◌, ◌-◌, ◌≤◌}
-use mathlib.Core.Path.{◌≡◌, refl, sym, ◌∙◌}
+use mathlib.Core.Path.{refl, sym, ◌∙◌}
 use Rattle.dimacs.proofs.Words.{begins_more, begins_differs, begins_short, begins_all, fixed_no, fixed_is}
 use native.Mathlib.Omega.{arith}
 use Rattle.token.proofs.fixed.Goals as goal

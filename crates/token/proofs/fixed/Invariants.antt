@@ -1,6 +1,6 @@
 -- `token::fixed` meets its contract: what is left of the word stands at i if all of it stands at the start. Assumes nothing.
 use Prim.Native.Nat.{◌+◌, ◌-◌, ◌≤◌}
-use mathlib.Core.Path.{◌≡◌, ◌∙◌}
+use mathlib.Core.Path.{◌≡◌}
 use lib.ListN.{length, drop}
 use Rattle.dimacs.specs.Tokens.{begins}
 use Rattle.token.proofs.fixed.Given as goal

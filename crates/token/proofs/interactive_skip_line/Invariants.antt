@@ -1,6 +1,6 @@
 -- `token::interactive_skip_line` meets its contract: what is past the bytes that end no line from i is what is past them from the start. Assumes nothing.
-use Prim.Native.Nat.{◌+◌, ◌-◌}
-use mathlib.Core.Path.{◌≡◌, ◌∙◌}
+use Prim.Native.Nat.{◌-◌}
+use mathlib.Core.Path.{◌≡◌}
 use lib.ListN.{length}
 use Rattle.dimacs.specs.Lined.{also_ends}
 use Rattle.dimacs.specs.declared.Ends.{Ends}

@@ -1,5 +1,4 @@
 -- `token::word_end` meets its contract: up to i the word goes on. Assumes nothing.
-use Prim.Native.Nat.{◌-◌}
 use mathlib.Core.Path.{sym, ◌∙◌}
 use Rattle.token.proofs.Stops.{in_word_first, in_word_more, past_word_longest, past_word_stop, past_word_end}
 use Rattle.token.proofs.word_end.Goals as goal

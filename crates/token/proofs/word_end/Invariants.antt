@@ -1,6 +1,5 @@
 -- `token::word_end` meets its contract: up to i the word goes on. Assumes nothing.
 use Prim.Native.Nat.{◌-◌}
-use mathlib.Core.Path.{◌∙◌}
 use lib.ListN.{length}
 use Rattle.token.proofs.Stops.{InWord}
 use Rattle.token.proofs.word_end.Given as goal
