@@ -1,6 +1,6 @@
 // Headers and clauses written by the number of a format, for callers in other languages: what is answered is left as words.
 //
-// Each call goes by the C calling convention. host/latchtwig.h declares them for C, host/rust for Rust.
+// `by_number_c` exports them by the C calling convention; host/latchtwig.h declares them for C, host/rust for Rust.
 #![tactic(auto)]
 
 ghost use Rattle.std.specs.Prelude.{◌≡◌, length};
@@ -60,8 +60,7 @@ fn hard_clause_line(format: u32, lits: &[i32], out: &mut [u8]) -> Written
 }
 
 // The line of a header at the output's front: 1 for a line, 2 for a refusal. The array holds the refusal's number and place, two zeros, and the length of the line.
-#[unsafe(no_mangle)]
-pub extern "C" fn latchtwig_write_header(
+pub fn latchtwig_write_header(
     format: u32,
     variables: u64,
     clauses: u64,
@@ -82,8 +81,7 @@ pub extern "C" fn latchtwig_write_header(
 }
 
 // The line of a clause at the output's front, answered in the same way. In the 2022 form it is soft, and its weight is not 0.
-#[unsafe(no_mangle)]
-pub extern "C" fn latchtwig_write_clause(
+pub fn latchtwig_write_clause(
     format: u32,
     extra: u64,
     lits: &[i32],
@@ -98,8 +96,7 @@ pub extern "C" fn latchtwig_write_clause(
 }
 
 // The line of a hard clause at the output's front, answered in the same way. The 2022 form alone has them.
-#[unsafe(no_mangle)]
-pub extern "C" fn latchtwig_write_hard_clause(
+pub fn latchtwig_write_hard_clause(
     format: u32,
     lits: &[i32],
     out: &mut [u8],

@@ -1,20 +1,24 @@
-// Standard output, line by line, and standard input, with a read that fails told from the end.
+// Lines to standard output, and bytes from standard input, with a read that fails told from the end.
 //
-// No contract says what a C function writes, so `print` has none; no other public function is without one.
+// The output is any writer and the input any reader. Where the bytes that one holds or has left are known, the contracts say what is written and what came; of the
+// streams of a process they are not known.
 #![tactic(auto)]
 
-ghost use Rattle.std.specs.Prelude.{false, ◌≡◌, ◌≤◌, length};
-ghost use Rattle.console.specs.Takes.{Takes};
+ghost use Rattle.std.specs.Prelude.{false, ◌≡◌, ◌≤◌, length, IsTrue};
+ghost use Rattle.std.specs.Io.KnownBytes.{Appends};
+ghost use Rattle.console.specs.Takes.{Takes, Fills, Passes};
 
-use libc::{STDIN_FILENO, STDOUT_FILENO};
+use std::io::{Read, Write};
 
 // Writes a line, and tells whether all of it was written.
-pub fn print(line: &[u8]) -> bool {
-    io::write_all(STDOUT_FILENO, line)
+pub fn print<W: Write>(out: &mut W, line: &[u8]) -> bool
+    ensures { IsTrue result → Appends (W.contents out.old) (W.contents out.new) line.now }
+{
+    out.write_all(line).is_ok()
 }
 
 // What came of the bytes that were asked for.
-#[derive(Drop)]
+#[derive(Clone, Copy)]
 pub enum Taken {
     // All of them.
     Whole,
@@ -25,43 +29,40 @@ pub enum Taken {
 }
 
 // Reads until the buffer is full, the input ends or a read fails.
-pub fn take(buf: &mut [u8]) -> Taken
-    ensures { Takes (length buf.old) result }
+pub fn take<R: Read>(input: &mut R, buf: &mut [u8]) -> Taken
+    ensures told { Takes (length buf.old) result }
+    ensures bytes { Fills (R.remaining input.old) (R.remaining input.new) buf.new result }
 {
     let mut done: usize = 0;
     while done < buf.len() {
-        let rest = &mut buf[done..];
-        let got = libc::read(STDIN_FILENO, rest);
-        if got < 0 {
-            return Taken::Failed;
+        match input.read(&mut buf[done..]) {
+            Ok(0) => return Taken::Part(done),
+            Ok(n) => done += n,
+            Err(_) => return Taken::Failed,
         }
-        let n = io::count(got, rest);
-        if n == 0 {
-            return Taken::Part(done);
-        }
-        done += n;
     }
     Taken::Whole
 }
 
 // Passes over at most 4,096 bytes.
-fn skip_few(few: usize) -> Taken
+fn skip_few<R: Read>(input: &mut R, few: usize) -> Taken
     requires { few ≤ 4096 }
-    ensures { Takes few result }
+    ensures told { Takes few result }
+    ensures bytes { Passes few (R.remaining input.old) (R.remaining input.new) result }
 {
-    let mut buf = io::buffer();
-    take(&mut buf[..few])
+    let mut buf = [0u8; 4096];
+    take(input, &mut buf[..few])
 }
 
 // Passes over so many bytes.
-pub fn skip(length: usize) -> Taken
-    ensures { Takes length result }
+pub fn skip<R: Read>(input: &mut R, length: usize) -> Taken
+    ensures told { Takes length result }
+    ensures bytes { Passes length (R.remaining input.old) (R.remaining input.new) result }
 {
     let mut left = length;
     while 0 < left {
         let few = frame::smaller(left, 4096);
-        let taken = skip_few(few);
-        match taken {
+        match skip_few(input, few) {
             Taken::Whole => left -= few,
             Taken::Part(got) => return Taken::Part(length - left + got),
             Taken::Failed => return Taken::Failed,
@@ -71,16 +72,16 @@ pub fn skip(length: usize) -> Taken
 }
 
 // What did not come whole is told, and nothing follows it.
-pub fn stop(taken: Taken) -> bool
+pub fn stop<W: Write>(out: &mut W, taken: Taken) -> bool
     ensures { result ≡ false }
 {
     match taken {
         Taken::Whole => {}
         Taken::Part(_) => {
-            print(b"cut\n");
+            print(out, b"cut\n");
         }
         Taken::Failed => {
-            print(b"unreadable\n");
+            print(out, b"unreadable\n");
         }
     }
     false

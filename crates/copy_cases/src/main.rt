@@ -12,6 +12,7 @@ ghost use Rattle.copy_cases.specs.Titles.{format_name, title_line};
 use clause::Next;
 use dimacs::{Ends, Format, HARD, Header, LARGEST, Mode, Opening, ROOM, Refusal, Rigor, has_hard};
 use formula::Cursor;
+use std::io::Stdout;
 use writer::Written;
 
 // The longest text.
@@ -29,34 +30,34 @@ struct Formula {
 }
 
 // Says so if what was read is not what was written.
-fn compared(same: bool) {
+fn compared(stdout: &mut Stdout, same: bool) {
     if !same {
-        console::print(b"differs\n");
+        console::print(stdout, b"differs\n");
     }
 }
 
 // The place past a line that was written at a place, if one was.
-fn past_line(at: usize, answer: Written) -> usize
+fn past_line(stdout: &mut Stdout, at: usize, answer: Written) -> usize
     requires { at + line_length answer ≤ 18446744073709551615 }
     ensures { result ≡ at + line_length answer }
 {
     match answer {
         Written::Line(n) => at + n,
         Written::Refused(_) => {
-            console::print(b"unwritten\n");
+            console::print(stdout, b"unwritten\n");
             at
         }
     }
 }
 
 // The header written, if there is one, and the place past it.
-fn put_header(text: &mut [u8], f: Formula) -> usize
+fn put_header(stdout: &mut Stdout, text: &mut [u8], f: Formula) -> usize
     ensures { result ≤ length text.old }
 {
     if f.headed {
         let format = f.format;
         let header = f.header;
-        return past_line(0, writer::write_header(format, header, text));
+        return past_line(stdout, 0, writer::write_header(format, header, text));
     }
     0
 }
@@ -72,11 +73,22 @@ fn write_clause(format: Format, extra: u64, lits: &[i32], out: &mut [u8]) -> Wri
 }
 
 // A clause written at a place, and the place past it.
-fn put_clause(text: &mut [u8], at: usize, format: Format, extra: u64, lits: &[i32]) -> usize
+fn put_clause(
+    stdout: &mut Stdout,
+    text: &mut [u8],
+    at: usize,
+    format: Format,
+    extra: u64,
+    lits: &[i32],
+) -> usize
     requires { at ≤ length text.old }
     ensures { result ≤ length text.old }
 {
-    past_line(at, write_clause(format, extra, lits, &mut text[at..]))
+    past_line(
+        stdout,
+        at,
+        write_clause(format, extra, lits, &mut text[at..]),
+    )
 }
 
 // Where the 0 stands that ends the clause at a place.
@@ -106,13 +118,19 @@ fn past(given: &[i32], end: usize) -> usize
 }
 
 // The whole formula written, and its length.
-fn written(text: &mut [u8], f: Formula, extras: &[u64], given: &[i32]) -> usize {
+fn written(
+    stdout: &mut Stdout,
+    text: &mut [u8],
+    f: Formula,
+    extras: &[u64],
+    given: &[i32],
+) -> usize {
     let format = f.format;
-    let mut at = put_header(text, f);
+    let mut at = put_header(stdout, text, f);
     let mut from: usize = 0;
     for k in 0..extras.len() {
         let end = zero(given, from);
-        at = put_clause(text, at, format, extras[k], &given[from..end]);
+        at = put_clause(stdout, text, at, format, extras[k], &given[from..end]);
         from = past(given, end);
     }
     at
@@ -130,12 +148,13 @@ fn same(a: &[i32], b: &[i32]) -> bool {
     true
 }
 
-fn header_read(page: &mut [u8], f: Formula, read: Header) {
+fn header_read(stdout: &mut Stdout, page: &mut [u8], f: Formula, read: Header) {
     let format = f.format;
     let h = f.header;
     let past = lines::header_line(page, 0, read, format);
-    console::print(lines::upto(page, past));
+    console::print(stdout, lines::upto(page, past));
     compared(
+        stdout,
         f.headed
             && read.variables == h.variables
             && read.clauses == h.clauses
@@ -143,12 +162,12 @@ fn header_read(page: &mut [u8], f: Formula, read: Header) {
     );
 }
 
-fn opening_read(page: &mut [u8], f: Formula, read: Opening) {
+fn opening_read(stdout: &mut Stdout, page: &mut [u8], f: Formula, read: Opening) {
     match read {
-        Opening::Header(header, _) => header_read(page, f, header),
+        Opening::Header(header, _) => header_read(stdout, page, f, header),
         Opening::NoHeader(_) => {
-            console::print(b"header none\n");
-            compared(!f.headed);
+            console::print(stdout, b"header none\n");
+            compared(stdout, !f.headed);
         }
         Opening::Refused(_) => {}
     }
@@ -156,6 +175,7 @@ fn opening_read(page: &mut [u8], f: Formula, read: Opening) {
 
 // A clause that was read. It must be due, and its literals these.
 fn clause_read(
+    stdout: &mut Stdout,
     page: &mut [u8],
     format: Format,
     extra: u64,
@@ -164,24 +184,25 @@ fn clause_read(
     given: &[i32],
 ) {
     let past = lines::clause_line(page, 0, format, extra, lits);
-    console::print(lines::upto(page, past));
-    compared(due && same(lits, given));
+    console::print(stdout, lines::upto(page, past));
+    compared(stdout, due && same(lits, given));
 }
 
-fn end_read(due: bool) {
-    console::print(b"end\n");
-    compared(due);
+fn end_read(stdout: &mut Stdout, due: bool) {
+    console::print(stdout, b"end\n");
+    compared(stdout, due);
 }
 
 // A refusal, which is never due.
-fn refused_read(page: &mut [u8], r: Refusal) {
+fn refused_read(stdout: &mut Stdout, page: &mut [u8], r: Refusal) {
     let past = lines::refused_line(page, 0, r);
-    console::print(lines::upto(page, past));
-    compared(false);
+    console::print(stdout, lines::upto(page, past));
+    compared(stdout, false);
 }
 
 // An answer of the reader. It must be this clause, or the end where no clause is due.
 fn answer_read(
+    stdout: &mut Stdout,
     page: &mut [u8],
     answer: Next,
     format: Format,
@@ -194,6 +215,7 @@ fn answer_read(
 {
     match answer {
         Next::Clause { extra: read, count } => clause_read(
+            stdout,
             page,
             format,
             read,
@@ -201,13 +223,14 @@ fn answer_read(
             due && read == extra,
             given,
         ),
-        Next::Ended => end_read(!due),
-        Next::Refused { refusal, count: _ } => refused_read(page, refusal),
+        Next::Ended => end_read(stdout, !due),
+        Next::Refused { refusal, count: _ } => refused_read(stdout, page, refusal),
     }
 }
 
 // The next answer of the reader, and the cursor past it.
 fn next_read(
+    stdout: &mut Stdout,
     page: &mut [u8],
     text: &[u8],
     cursor: Cursor,
@@ -219,11 +242,12 @@ fn next_read(
     let format = cursor.format;
     let step = cursor.next_clause(text, lits);
     let answer = step.answer;
-    answer_read(page, answer, format, lits, due, extra, given);
+    answer_read(stdout, page, answer, format, lits, due, extra, given);
     step.cursor
 }
 
 fn clauses_read(
+    stdout: &mut Stdout,
     page: &mut [u8],
     text: &[u8],
     first: Cursor,
@@ -235,21 +259,38 @@ fn clauses_read(
     let mut from: usize = 0;
     for k in 0..extras.len() {
         let end = zero(given, from);
-        cursor = next_read(page, text, cursor, lits, true, extras[k], &given[from..end]);
+        cursor = next_read(
+            stdout,
+            page,
+            text,
+            cursor,
+            lits,
+            true,
+            extras[k],
+            &given[from..end],
+        );
         from = past(given, end);
     }
-    next_read(page, text, cursor, lits, false, 0, given);
+    next_read(stdout, page, text, cursor, lits, false, 0, given);
 }
 
 // The text read in a mode, with the room of a caller that lends no buffer.
-fn read_back(page: &mut [u8], text: &[u8], f: Formula, mode: Mode, extras: &[u64], given: &[i32]) {
+fn read_back(
+    stdout: &mut Stdout,
+    page: &mut [u8],
+    text: &[u8],
+    f: Formula,
+    mode: Mode,
+    extras: &[u64],
+    given: &[i32],
+) {
     let format = f.format;
     let opened = formula::open_as(text, format, mode);
     let opening = opened.opening;
     let cursor = opened.cursor;
-    opening_read(page, f, opening);
+    opening_read(stdout, page, f, opening);
     let mut lits = [0i32; ROOM];
-    clauses_read(page, text, cursor, &mut lits, extras, given);
+    clauses_read(stdout, page, text, cursor, &mut lits, extras, given);
 }
 
 fn name(page: &mut [u8], at: usize, format: Format) -> usize
@@ -273,7 +314,15 @@ fn title_line(page: &mut [u8], at: usize, format: Format, bytes: usize) -> usize
 }
 
 // The text read strictly and leniently.
-fn both(page: &mut [u8], text: &[u8], f: Formula, ends: Ends, extras: &[u64], given: &[i32]) {
+fn both(
+    stdout: &mut Stdout,
+    page: &mut [u8],
+    text: &[u8],
+    f: Formula,
+    ends: Ends,
+    extras: &[u64],
+    given: &[i32],
+) {
     let strict = Mode {
         rigor: Rigor::Strict,
         ends,
@@ -282,26 +331,33 @@ fn both(page: &mut [u8], text: &[u8], f: Formula, ends: Ends, extras: &[u64], gi
         rigor: Rigor::Lenient,
         ends,
     };
-    console::print(b"strict\n");
-    read_back(page, text, f, strict, extras, given);
-    console::print(b"lenient\n");
-    read_back(page, text, f, lenient, extras, given);
+    console::print(stdout, b"strict\n");
+    read_back(stdout, page, text, f, strict, extras, given);
+    console::print(stdout, b"lenient\n");
+    read_back(stdout, page, text, f, lenient, extras, given);
 }
 
-fn in_modes(page: &mut [u8], text: &[u8], f: Formula, extras: &[u64], given: &[i32]) {
+fn in_modes(
+    stdout: &mut Stdout,
+    page: &mut [u8],
+    text: &[u8],
+    f: Formula,
+    extras: &[u64],
+    given: &[i32],
+) {
     let format = f.format;
     let past = title_line(page, 0, format, text.len());
-    console::print(lines::upto(page, past));
-    console::print(text);
-    both(page, text, f, Ends::LineFeed, extras, given);
-    console::print(b"cr\n");
-    both(page, text, f, Ends::AlsoReturn, extras, given);
+    console::print(stdout, lines::upto(page, past));
+    console::print(stdout, text);
+    both(stdout, page, text, f, Ends::LineFeed, extras, given);
+    console::print(stdout, b"cr\n");
+    both(stdout, page, text, f, Ends::AlsoReturn, extras, given);
 }
 
-fn copied(page: &mut [u8; PAGE], f: Formula, extras: &[u64], given: &[i32]) {
+fn copied(stdout: &mut Stdout, page: &mut [u8; PAGE], f: Formula, extras: &[u64], given: &[i32]) {
     let mut text = [0u8; TEXT];
-    let n = written(&mut text, f, extras, given);
-    in_modes(page, lines::upto(&text, n), f, extras, given);
+    let n = written(stdout, &mut text, f, extras, given);
+    in_modes(stdout, page, lines::upto(&text, n), f, extras, given);
 }
 
 fn bare(format: Format) -> Formula {
@@ -330,26 +386,30 @@ fn headed(format: Format, variables: u64, clauses: u64, third: u64) -> Formula {
     }
 }
 
-fn plain(page: &mut [u8; PAGE]) {
+fn plain(stdout: &mut Stdout, page: &mut [u8; PAGE]) {
     copied(
+        stdout,
         page,
         headed(Format::Plain, 3, 2, 0),
         &[0, 0],
         &[1, -3, 0, -2, 0],
     );
     copied(
+        stdout,
         page,
         headed(Format::Plain, 2147483647, 0, 0),
         &[0, 0],
         &[2147483647, -2147483647, 0, 0],
     );
     copied(
+        stdout,
         page,
         headed(Format::Plain, 0, 1, 0),
         &[0],
         &[9, -10, 99, -100, 0],
     );
     copied(
+        stdout,
         page,
         bare(Format::Plain),
         &[0, 0],
@@ -357,20 +417,23 @@ fn plain(page: &mut [u8; PAGE]) {
     );
 }
 
-fn weighted(page: &mut [u8; PAGE]) {
+fn weighted(stdout: &mut Stdout, page: &mut [u8; PAGE]) {
     copied(
+        stdout,
         page,
         headed(Format::Weighted, 100, 5, LARGEST),
         &[0, 9, 10, 99, 100],
         &[1, 0, -9, 0, 10, -99, 0, 100, 0, 0],
     );
     copied(
+        stdout,
         page,
         headed(Format::Weighted, 0, 0, 0),
         &[2147483647],
         &[2147483647, 0],
     );
     copied(
+        stdout,
         page,
         bare(Format::Weighted),
         &[9223372036854775808, LARGEST, 0],
@@ -378,20 +441,23 @@ fn weighted(page: &mut [u8; PAGE]) {
     );
 }
 
-fn grouped(page: &mut [u8; PAGE]) {
+fn grouped(stdout: &mut Stdout, page: &mut [u8; PAGE]) {
     copied(
+        stdout,
         page,
         headed(Format::Grouped, 9, 3, 10),
         &[0, 9, 10],
         &[1, -9, 0, 0, 2, 0],
     );
     copied(
+        stdout,
         page,
         headed(Format::Grouped, 0, 0, LARGEST),
         &[LARGEST, 9223372036854775808],
         &[-2147483647, 0, 0],
     );
     copied(
+        stdout,
         page,
         bare(Format::Grouped),
         &[LARGEST, 99, 100],
@@ -399,8 +465,9 @@ fn grouped(page: &mut [u8; PAGE]) {
     );
 }
 
-fn weighted_2022(page: &mut [u8; PAGE]) {
+fn weighted_2022(stdout: &mut Stdout, page: &mut [u8; PAGE]) {
     copied(
+        stdout,
         page,
         bare(Format::Weighted2022),
         &[HARD, 9, HARD, 100, LARGEST],
@@ -409,44 +476,55 @@ fn weighted_2022(page: &mut [u8; PAGE]) {
 }
 
 // A formula of no clauses.
-fn no_clauses(page: &mut [u8; PAGE], f: Formula) {
+fn no_clauses(stdout: &mut Stdout, page: &mut [u8; PAGE], f: Formula) {
     let none = [0u64; 0];
     let given = [0i32; 0];
-    copied(page, f, &none, &given);
+    copied(stdout, page, f, &none, &given);
 }
 
-fn empty(page: &mut [u8; PAGE], format: Format) {
-    no_clauses(page, bare(format));
-    no_clauses(page, headed(format, 0, 0, 0));
+fn empty(stdout: &mut Stdout, page: &mut [u8; PAGE], format: Format) {
+    no_clauses(stdout, page, bare(format));
+    no_clauses(stdout, page, headed(format, 0, 0, 0));
 }
 
 // A clause that takes all the room.
-fn long(page: &mut [u8; PAGE], f: Formula, extra: u64) {
+fn long(stdout: &mut Stdout, page: &mut [u8; PAGE], f: Formula, extra: u64) {
     let mut given = [0i32; ROOM + 1];
     for i in 0..ROOM {
         given[i] = (i + 1) as i32;
     }
     given[ROOM - 1] = -1024;
-    copied(page, f, &[extra], &given);
+    copied(stdout, page, f, &[extra], &given);
 }
 
-fn copies(page: &mut [u8; PAGE]) {
-    plain(page);
-    weighted(page);
-    grouped(page);
-    empty(page, Format::Plain);
-    empty(page, Format::Weighted);
-    empty(page, Format::Grouped);
-    long(page, headed(Format::Plain, 1024, 1, 0), 0);
-    long(page, headed(Format::Weighted, 1024, 1, LARGEST), LARGEST);
-    long(page, headed(Format::Grouped, 1024, 1, LARGEST), LARGEST);
-    weighted_2022(page);
-    no_clauses(page, bare(Format::Weighted2022));
-    long(page, bare(Format::Weighted2022), HARD);
-    long(page, bare(Format::Weighted2022), LARGEST);
+fn copies(stdout: &mut Stdout, page: &mut [u8; PAGE]) {
+    plain(stdout, page);
+    weighted(stdout, page);
+    grouped(stdout, page);
+    empty(stdout, page, Format::Plain);
+    empty(stdout, page, Format::Weighted);
+    empty(stdout, page, Format::Grouped);
+    long(stdout, page, headed(Format::Plain, 1024, 1, 0), 0);
+    long(
+        stdout,
+        page,
+        headed(Format::Weighted, 1024, 1, LARGEST),
+        LARGEST,
+    );
+    long(
+        stdout,
+        page,
+        headed(Format::Grouped, 1024, 1, LARGEST),
+        LARGEST,
+    );
+    weighted_2022(stdout, page);
+    no_clauses(stdout, page, bare(Format::Weighted2022));
+    long(stdout, page, bare(Format::Weighted2022), HARD);
+    long(stdout, page, bare(Format::Weighted2022), LARGEST);
 }
 
-fn main() {
+fn main(rt: HostRuntime) {
+    let mut stdout = rt.stdout();
     let mut page = [0u8; PAGE];
-    copies(&mut page);
+    copies(&mut stdout, &mut page);
 }

@@ -8,6 +8,7 @@ ghost use Rattle.pages.specs.Pages.{Lays};
 ghost use Rattle.host_cases.specs.Answers.{printed_numbers, outcome_line};
 
 use console::Taken;
+use std::io::{Stdin, Stdout};
 
 // The bytes of a frame before its text.
 const HEAD: usize = 12;
@@ -66,55 +67,69 @@ fn head_of(frame: &[u8]) -> Head {
 }
 
 // The rest of a case whose text fills the slice lent, and whether another may follow.
-fn case(page: &mut [u8], head: Head, text: &mut [u8]) -> bool {
-    let taken = console::take(text);
+fn case(
+    stdin: &mut Stdin,
+    stdout: &mut Stdout,
+    page: &mut [u8],
+    head: Head,
+    text: &mut [u8],
+) -> bool {
+    let taken = console::take(stdin, text);
     let Taken::Whole = taken else {
-        return console::stop(taken);
+        return console::stop(stdout, taken);
     };
     let past = outcome_line(page, 0, head.format, head.mode, text);
-    console::print(pages::upto(page, past));
+    console::print(stdout, pages::upto(page, past));
     true
 }
 
 // The rest of a case, and whether another may follow.
-fn framed(page: &mut [u8], head: Head, text: &mut [u8]) -> bool {
+fn framed(
+    stdin: &mut Stdin,
+    stdout: &mut Stdout,
+    page: &mut [u8],
+    head: Head,
+    text: &mut [u8],
+) -> bool {
     let length = head.length;
     if text.len() < length {
-        console::print(b"cut\n");
+        console::print(stdout, b"cut\n");
         return false;
     }
-    case(page, head, &mut text[..length])
+    case(stdin, stdout, page, head, &mut text[..length])
 }
 
 // A frame that is cut off, if any of it came.
-fn cut(got: usize) -> bool {
+fn cut(stdout: &mut Stdout, got: usize) -> bool {
     if got == 0 {
         return false;
     }
-    console::stop(Taken::Part(got))
+    console::stop(stdout, Taken::Part(got))
 }
 
 // One case, and whether another may follow.
-fn one(page: &mut [u8], text: &mut [u8]) -> bool {
+fn one(stdin: &mut Stdin, stdout: &mut Stdout, page: &mut [u8], text: &mut [u8]) -> bool {
     let mut frame = [0u8; HEAD];
-    let taken = console::take(&mut frame);
+    let taken = console::take(stdin, &mut frame);
     match taken {
-        Taken::Whole => framed(page, head_of(&frame), text),
-        Taken::Part(got) => cut(got),
-        Taken::Failed => console::stop(taken),
+        Taken::Whole => framed(stdin, stdout, page, head_of(&frame), text),
+        Taken::Part(got) => cut(stdout, got),
+        Taken::Failed => console::stop(stdout, taken),
     }
 }
 
-fn cases(page: &mut [u8], text: &mut [u8]) {
+fn cases(stdin: &mut Stdin, stdout: &mut Stdout, page: &mut [u8], text: &mut [u8]) {
     for _ in 0..u64::MAX {
-        if !one(page, text) {
+        if !one(stdin, stdout, page, text) {
             return;
         }
     }
 }
 
-fn main() {
+fn main(rt: HostRuntime) {
+    let mut stdin = rt.stdin();
+    let mut stdout = rt.stdout();
     let mut page = [0u8; PAGE];
     let mut text = [0u8; TEXT];
-    cases(&mut page, &mut text);
+    cases(&mut stdin, &mut stdout, &mut page, &mut text);
 }

@@ -1,6 +1,6 @@
 // The calls for callers in other languages that judge a whole text, by number and byte slice.
 //
-// Each goes by the C calling convention, with format and mode by number. host/latchtwig.h declares them for C, host/rust for Rust.
+// Each takes format and mode by number. `latchtwig_c` exports them by the C calling convention; host/latchtwig.h declares them for C, host/rust for Rust.
 #![tactic(auto)]
 
 ghost use Rattle.std.specs.Prelude.{◌≡◌};
@@ -69,16 +69,14 @@ fn words_told(outcome: Outcome, text: &[u8]) -> [u64; 4]
 }
 
 // The number of the refusal that the text comes to, or 0 if it is read to its end.
-#[unsafe(no_mangle)]
-pub extern "C" fn latchtwig_refusal(format: u32, mode: u32, text: &[u8]) -> u32
+pub fn latchtwig_refusal(format: u32, mode: u32, text: &[u8]) -> u32
     ensures { result ≡ number_told (outcome format mode text.now) }
 {
     number_told(check(text, format, mode))
 }
 
 // The place of the refusal that the text comes to, or the text's length if it is read to its end.
-#[unsafe(no_mangle)]
-pub extern "C" fn latchtwig_place(format: u32, mode: u32, text: &[u8]) -> u64
+pub fn latchtwig_place(format: u32, mode: u32, text: &[u8]) -> u64
     ensures { result ≡ place_told text.now (outcome format mode text.now) }
 {
     match check(text, format, mode) {
@@ -88,8 +86,7 @@ pub extern "C" fn latchtwig_place(format: u32, mode: u32, text: &[u8]) -> u64
 }
 
 // That number, which is answered and left in the array, and after it there the refusal's place, line and column. Of a text read to its end the place is its length, and line and column are 0.
-#[unsafe(no_mangle)]
-pub extern "C" fn latchtwig_check(format: u32, mode: u32, text: &[u8], answer: &mut [u64; 4]) -> u32
+pub fn latchtwig_check(format: u32, mode: u32, text: &[u8], answer: &mut [u64; 4]) -> u32
     ensures { Checks text.now (outcome format mode text.now) answer.new result }
 {
     let outcome = check(text, format, mode);

@@ -13,10 +13,11 @@ use dimacs::{Ends, Format, Kind, LARGEST, LOG_FORMAT, Opening, Refusal, Verdict}
 use formula::Cursor;
 use lines::{clause_line, word};
 use log_line::Log;
+use std::io::{Stdin, Stdout};
 
 // Prints what is laid in the page up to a place.
-fn show(page: &[u8], past: usize) {
-    console::print(lines::upto(page, past));
+fn show(stdout: &mut Stdout, page: &[u8], past: usize) {
+    console::print(stdout, lines::upto(page, past));
 }
 
 // The word that a refusal stopped at, if there is one.
@@ -37,15 +38,22 @@ fn word_of(page: &mut [u8], at: usize, text: &[u8], ends: Ends, r: Refusal) -> u
 }
 
 // Number, place, k, line and column of a refusal, and the word it stopped at.
-fn refused(page: &mut [u8], text: &[u8], ends: Ends, r: Refusal, count: usize) {
+fn refused(
+    stdout: &mut Stdout,
+    page: &mut [u8],
+    text: &[u8],
+    ends: Ends,
+    r: Refusal,
+    count: usize,
+) {
     let past_spot = lines::refused_words(page, 0, r, count, b"", b"", b"", b"");
     let past_word = word_of(page, past_spot, text, ends, r);
     let past = word(page, past_word, b"\n");
-    show(page, past);
+    show(stdout, page, past);
 }
 
 // The clauses from a cursor on, and the end or the refusal.
-fn clauses(text: &[u8], from: Cursor, lits: &mut [i32], page: &mut [u8]) {
+fn clauses(stdout: &mut Stdout, text: &[u8], from: Cursor, lits: &mut [i32], page: &mut [u8]) {
     let mut cursor = from;
     let format = from.format;
     let ends = from.ends;
@@ -56,19 +64,22 @@ fn clauses(text: &[u8], from: Cursor, lits: &mut [i32], page: &mut [u8]) {
         match answer {
             Next::Clause { extra, count } => {
                 let past = clause_line(page, 0, format, extra, &lits[..count]);
-                show(page, past);
+                show(stdout, page, past);
             }
             Next::Ended => {
-                console::print(b"end\n");
+                console::print(stdout, b"end\n");
                 return;
             }
-            Next::Refused { refusal, count } => return refused(page, text, ends, refusal, count),
+            Next::Refused { refusal, count } => return refused(
+                stdout, page, text, ends, refusal, count,
+            ),
         }
     }
 }
 
 // The first answer of a text, and whether it is a clause.
 fn first_line(
+    stdout: &mut Stdout,
     page: &mut [u8],
     text: &[u8],
     ends: Ends,
@@ -81,15 +92,15 @@ fn first_line(
     match first {
         Next::Clause { extra, count } => {
             let past = clause_line(page, 0, format, extra, &lits[..count]);
-            show(page, past);
+            show(stdout, page, past);
             true
         }
         Next::Ended => {
-            console::print(b"end\n");
+            console::print(stdout, b"end\n");
             false
         }
         Next::Refused { refusal, count } => {
-            refused(page, text, ends, refusal, count);
+            refused(stdout, page, text, ends, refusal, count);
             false
         }
     }
@@ -105,13 +116,20 @@ fn opening_line(page: &mut [u8], opening: Opening, format: Format) -> usize {
 }
 
 // What follows the first clause from a cursor on.
-fn rest(text: &[u8], cursor: Cursor, lits: &mut [i32], page: &mut [u8]) {
+fn rest(stdout: &mut Stdout, text: &[u8], cursor: Cursor, lits: &mut [i32], page: &mut [u8]) {
     let step = cursor.next_clause(text, lits);
-    clauses(text, step.cursor, lits, page);
+    clauses(stdout, text, step.cursor, lits, page);
 }
 
 // How a text opens and its first answer are told by a reader that holds it, the rest by a cursor.
-fn formula_lines(text: &[u8], format: u8, mode: u8, lits: &mut [i32], page: &mut [u8]) {
+fn formula_lines(
+    stdout: &mut Stdout,
+    text: &[u8],
+    format: u8,
+    mode: u8,
+    lits: &mut [i32],
+    page: &mut [u8],
+) {
     let first = first_answer::first_clause(text, format, mode, lits);
     let opening = first.opening;
     let answer = first.answer;
@@ -120,9 +138,9 @@ fn formula_lines(text: &[u8], format: u8, mode: u8, lits: &mut [i32], page: &mut
     let named = cursor.format;
     let ends = cursor.ends;
     let past = opening_line(page, opening, named);
-    show(page, past);
-    if first_line(page, text, ends, named, answer, lits) {
-        rest(text, cursor, lits, page);
+    show(stdout, page, past);
+    if first_line(stdout, page, text, ends, named, answer, lits) {
+        rest(stdout, text, cursor, lits, page);
     }
 }
 
@@ -141,11 +159,11 @@ fn literals_line(page: &mut [u8], lits: &[i32]) -> usize {
     word(page, past, b"\n")
 }
 
-fn accepted(page: &mut [u8], verdict: Verdict, lits: &[i32]) {
+fn accepted(stdout: &mut Stdout, page: &mut [u8], verdict: Verdict, lits: &[i32]) {
     let past_verdict = verdict_line(page, verdict);
-    show(page, past_verdict);
+    show(stdout, page, past_verdict);
     let past = literals_line(page, lits);
-    show(page, past);
+    show(stdout, page, past);
 }
 
 // What ends a log's lines in the mode of a number. A number that names no mode has no text at fault.
@@ -157,43 +175,65 @@ fn log_ends(mode: u8) -> Ends {
     }
 }
 
-fn log_lines(text: &[u8], mode: u8, lits: &mut [i32], page: &mut [u8]) {
+fn log_lines(stdout: &mut Stdout, text: &[u8], mode: u8, lits: &mut [i32], page: &mut [u8]) {
     match sat_solver_log::parse_log(text, mode, lits) {
-        Log::Accepted { verdict, count } => accepted(page, verdict, &lits[..count]),
-        Log::Refused { refusal, count } => refused(page, text, log_ends(mode), refusal, count),
+        Log::Accepted { verdict, count } => accepted(stdout, page, verdict, &lits[..count]),
+        Log::Refused { refusal, count } => refused(
+            stdout,
+            page,
+            text,
+            log_ends(mode),
+            refusal,
+            count,
+        ),
     }
 }
 
 // What the reader of a format says of the text. What is no format is left to the reader of formulas, which refuses it.
-fn reader_lines(text: &[u8], format: u8, mode: u8, lits: &mut [i32], page: &mut [u8]) {
+fn reader_lines(
+    stdout: &mut Stdout,
+    text: &[u8],
+    format: u8,
+    mode: u8,
+    lits: &mut [i32],
+    page: &mut [u8],
+) {
     if format == LOG_FORMAT {
-        return log_lines(text, mode, lits, page);
+        return log_lines(stdout, text, mode, lits, page);
     }
-    formula_lines(text, format, mode, lits, page)
+    formula_lines(stdout, text, format, mode, lits, page)
 }
 
 // Whether all that was asked for came; what did not is told.
-fn came(taken: Taken) -> bool {
+fn came(stdout: &mut Stdout, taken: Taken) -> bool {
     match taken {
         Taken::Whole => true,
-        Taken::Part(_) => stop(taken),
-        Taken::Failed => stop(taken),
+        Taken::Part(_) => stop(stdout, taken),
+        Taken::Failed => stop(stdout, taken),
     }
 }
 
 // The text of a frame, and whether it came whole.
-fn text_lines(text: &mut [u8], format: u8, mode: u8, lits: &mut [i32], page: &mut [u8]) -> bool {
-    if came(console::take(text)) {
-        reader_lines(text, format, mode, lits, page);
+fn text_lines(
+    stdin: &mut Stdin,
+    stdout: &mut Stdout,
+    text: &mut [u8],
+    format: u8,
+    mode: u8,
+    lits: &mut [i32],
+    page: &mut [u8],
+) -> bool {
+    if came(stdout, console::take(stdin, text)) {
+        reader_lines(stdout, text, format, mode, lits, page);
         return true;
     }
     false
 }
 
 // Passes over a text that is longer than is taken, and tells whether another frame may follow.
-fn long(length: usize) -> bool {
-    console::print(b"long\n");
-    came(console::skip(length))
+fn long(stdin: &mut Stdin, stdout: &mut Stdout, length: usize) -> bool {
+    console::print(stdout, b"long\n");
+    came(stdout, console::skip(stdin, length))
 }
 
 // What a frame says before its text.
@@ -215,13 +255,22 @@ fn head_of(frame: &[u8]) -> Head {
 }
 
 // The rest of a case, and whether another may follow.
-fn framed(head: Head, text: &mut [u8], lits: &mut [i32], page: &mut [u8]) -> bool {
+fn framed(
+    stdin: &mut Stdin,
+    stdout: &mut Stdout,
+    head: Head,
+    text: &mut [u8],
+    lits: &mut [i32],
+    page: &mut [u8],
+) -> bool {
     let length = head.length;
     if text.len() < length {
-        return long(length);
+        return long(stdin, stdout, length);
     }
     let room = frame::smaller(head.room, lits.len());
     text_lines(
+        stdin,
+        stdout,
         &mut text[..length],
         head.format,
         head.mode,
@@ -230,44 +279,59 @@ fn framed(head: Head, text: &mut [u8], lits: &mut [i32], page: &mut [u8]) -> boo
     )
 }
 
-fn show_case(page: &mut [u8], case: u64) {
+fn show_case(stdout: &mut Stdout, page: &mut [u8], case: u64) {
     let past = lines::case_line(page, 0, case);
-    show(page, past);
+    show(stdout, page, past);
 }
 
 // A frame that is cut off, if any of it came.
-fn cut(page: &mut [u8], case: u64, got: usize) -> bool {
+fn cut(stdout: &mut Stdout, page: &mut [u8], case: u64, got: usize) -> bool {
     if got == 0 {
         return false;
     }
-    show_case(page, case);
-    stop(Taken::Part(got))
+    show_case(stdout, page, case);
+    stop(stdout, Taken::Part(got))
 }
 
 // One case, and whether another may follow.
-fn one(case: u64, text: &mut [u8], lits: &mut [i32], page: &mut [u8]) -> bool {
+fn one(
+    stdin: &mut Stdin,
+    stdout: &mut Stdout,
+    case: u64,
+    text: &mut [u8],
+    lits: &mut [i32],
+    page: &mut [u8],
+) -> bool {
     let mut frame = [0u8; 10];
-    let taken = console::take(&mut frame);
+    let taken = console::take(stdin, &mut frame);
     match taken {
         Taken::Whole => {
-            show_case(page, case);
-            framed(head_of(&frame), text, lits, page)
+            show_case(stdout, page, case);
+            framed(stdin, stdout, head_of(&frame), text, lits, page)
         }
-        Taken::Part(got) => cut(page, case, got),
-        Taken::Failed => stop(taken),
+        Taken::Part(got) => cut(stdout, page, case, got),
+        Taken::Failed => stop(stdout, taken),
     }
 }
 
-fn cases(text: &mut [u8], lits: &mut [i32], page: &mut [u8]) {
+fn cases(
+    stdin: &mut Stdin,
+    stdout: &mut Stdout,
+    text: &mut [u8],
+    lits: &mut [i32],
+    page: &mut [u8],
+) {
     let mut case: u64 = 0;
-    while case < LARGEST && one(case, text, lits, page) {
+    while case < LARGEST && one(stdin, stdout, case, text, lits, page) {
         case += 1;
     }
 }
 
-fn main() {
-    let mut text = io::large_buffer();
+fn main(rt: HostRuntime) {
+    let mut stdin = rt.stdin();
+    let mut stdout = rt.stdout();
+    let mut text = [0u8; 65536];
     let mut lits = [0i32; 4096];
-    let mut page = io::large_buffer();
-    cases(&mut text, &mut lits, &mut page);
+    let mut page = [0u8; 65536];
+    cases(&mut stdin, &mut stdout, &mut text, &mut lits, &mut page);
 }

@@ -8,10 +8,11 @@ use console::{Taken, stop};
 use cursor_words::WORDS;
 use dimacs::{Format, Header, Kind, LARGEST, LOG_FORMAT, Refusal};
 use lines::{clause_line, word};
+use std::io::{Stdin, Stdout};
 
 // Prints what is laid in the page up to a place.
-fn show(page: &[u8], past: usize) {
-    console::print(lines::upto(page, past));
+fn show(stdout: &mut Stdout, page: &[u8], past: usize) {
+    console::print(stdout, lines::upto(page, past));
 }
 
 // The word of so many bytes at a place of the text.
@@ -44,16 +45,17 @@ fn refusal_of(words: [u64; NEXT_WORDS]) -> Refusal {
 }
 
 // Number, place, k, line and column of a refusal, and the word it stopped at.
-fn refused(page: &mut [u8], text: &[u8], mode: u32, words: [u64; NEXT_WORDS]) {
+fn refused(stdout: &mut Stdout, page: &mut [u8], text: &[u8], mode: u32, words: [u64; NEXT_WORDS]) {
     let r = refusal_of(words);
     let past_spot = lines::refused_words(page, 0, r, words[4] as usize, b"", b"", b"", b"");
     let past_word = stopped_word(page, past_spot, text, mode, r);
     let past = word(page, past_word, b"\n");
-    show(page, past);
+    show(stdout, page, past);
 }
 
 // The next answer from the cursor that the words hold, and whether another may follow.
 fn one_clause(
+    stdout: &mut Stdout,
     text: &[u8],
     mode: u32,
     format: Format,
@@ -66,19 +68,20 @@ fn one_clause(
     if kind == 1 {
         let count = words[4] as usize;
         let past = clause_line(page, 0, format, words[5], &lits[..count]);
-        show(page, past);
+        show(stdout, page, past);
         return true;
     }
     if kind == 0 {
-        console::print(b"end\n");
+        console::print(stdout, b"end\n");
         return false;
     }
-    refused(page, text, mode, words);
+    refused(stdout, page, text, mode, words);
     false
 }
 
 // The clauses from the cursor that the words hold, and the end or the refusal.
 fn clauses(
+    stdout: &mut Stdout,
     text: &[u8],
     mode: u32,
     format: Format,
@@ -87,7 +90,7 @@ fn clauses(
     page: &mut [u8],
 ) {
     for _ in 0..u64::MAX {
-        if !one_clause(text, mode, format, cursor, lits, page) {
+        if !one_clause(stdout, text, mode, format, cursor, lits, page) {
             return;
         }
     }
@@ -119,13 +122,21 @@ fn named(format: u8, mode: u8) -> Format {
 }
 
 // How a text opens, and its clauses.
-fn formula_lines(text: &[u8], format: u8, mode: u8, lits: &mut [i32], page: &mut [u8]) {
+fn formula_lines(
+    stdout: &mut Stdout,
+    text: &[u8],
+    format: u8,
+    mode: u8,
+    lits: &mut [i32],
+    page: &mut [u8],
+) {
     let mut cursor = [0u64; WORDS];
     let mut words = [0u64; OPENING_WORDS];
     let kind = stepwise::latchtwig_open(format as u32, mode as u32, text, &mut cursor, &mut words);
     let past = opening_line(page, kind, words, named(format, mode));
-    show(page, past);
+    show(stdout, page, past);
     clauses(
+        stdout,
         text,
         mode as u32,
         named(format, mode),
@@ -150,52 +161,67 @@ fn literals_line(page: &mut [u8], lits: &[i32]) -> usize {
     word(page, past, b"\n")
 }
 
-fn accepted(page: &mut [u8], verdict: u64, lits: &[i32]) {
+fn accepted(stdout: &mut Stdout, page: &mut [u8], verdict: u64, lits: &[i32]) {
     let past_verdict = verdict_line(page, verdict);
-    show(page, past_verdict);
+    show(stdout, page, past_verdict);
     let past = literals_line(page, lits);
-    show(page, past);
+    show(stdout, page, past);
 }
 
-fn log_lines(text: &[u8], mode: u32, lits: &mut [i32], page: &mut [u8]) {
+fn log_lines(stdout: &mut Stdout, text: &[u8], mode: u32, lits: &mut [i32], page: &mut [u8]) {
     let mut words = [0u64; LOG_WORDS];
     let kind = stepwise::latchtwig_log(mode, text, lits, &mut words);
     if kind == 1 {
         let count = words[4] as usize;
-        return accepted(page, words[5], &lits[..count]);
+        return accepted(stdout, page, words[5], &lits[..count]);
     }
-    refused(page, text, mode, words)
+    refused(stdout, page, text, mode, words)
 }
 
 // What the calls leave of the text. What is no format is left to the reader of formulas, which refuses it.
-fn reader_lines(text: &[u8], format: u8, mode: u8, lits: &mut [i32], page: &mut [u8]) {
+fn reader_lines(
+    stdout: &mut Stdout,
+    text: &[u8],
+    format: u8,
+    mode: u8,
+    lits: &mut [i32],
+    page: &mut [u8],
+) {
     if format == LOG_FORMAT {
-        return log_lines(text, mode as u32, lits, page);
+        return log_lines(stdout, text, mode as u32, lits, page);
     }
-    formula_lines(text, format, mode, lits, page)
+    formula_lines(stdout, text, format, mode, lits, page)
 }
 // Whether all that was asked for came; what did not is told.
-fn came(taken: Taken) -> bool {
+fn came(stdout: &mut Stdout, taken: Taken) -> bool {
     match taken {
         Taken::Whole => true,
-        Taken::Part(_) => stop(taken),
-        Taken::Failed => stop(taken),
+        Taken::Part(_) => stop(stdout, taken),
+        Taken::Failed => stop(stdout, taken),
     }
 }
 
 // The text of a frame, and whether it came whole.
-fn text_lines(text: &mut [u8], format: u8, mode: u8, lits: &mut [i32], page: &mut [u8]) -> bool {
-    if came(console::take(text)) {
-        reader_lines(text, format, mode, lits, page);
+fn text_lines(
+    stdin: &mut Stdin,
+    stdout: &mut Stdout,
+    text: &mut [u8],
+    format: u8,
+    mode: u8,
+    lits: &mut [i32],
+    page: &mut [u8],
+) -> bool {
+    if came(stdout, console::take(stdin, text)) {
+        reader_lines(stdout, text, format, mode, lits, page);
         return true;
     }
     false
 }
 
 // Passes over a text that is longer than is taken, and tells whether another frame may follow.
-fn long(length: usize) -> bool {
-    console::print(b"long\n");
-    came(console::skip(length))
+fn long(stdin: &mut Stdin, stdout: &mut Stdout, length: usize) -> bool {
+    console::print(stdout, b"long\n");
+    came(stdout, console::skip(stdin, length))
 }
 
 // What a frame says before its text.
@@ -217,13 +243,22 @@ fn head_of(frame: &[u8]) -> Head {
 }
 
 // The rest of a case, and whether another may follow.
-fn framed(head: Head, text: &mut [u8], lits: &mut [i32], page: &mut [u8]) -> bool {
+fn framed(
+    stdin: &mut Stdin,
+    stdout: &mut Stdout,
+    head: Head,
+    text: &mut [u8],
+    lits: &mut [i32],
+    page: &mut [u8],
+) -> bool {
     let length = head.length;
     if text.len() < length {
-        return long(length);
+        return long(stdin, stdout, length);
     }
     let room = frame::smaller(head.room, lits.len());
     text_lines(
+        stdin,
+        stdout,
         &mut text[..length],
         head.format,
         head.mode,
@@ -232,44 +267,59 @@ fn framed(head: Head, text: &mut [u8], lits: &mut [i32], page: &mut [u8]) -> boo
     )
 }
 
-fn show_case(page: &mut [u8], case: u64) {
+fn show_case(stdout: &mut Stdout, page: &mut [u8], case: u64) {
     let past = lines::case_line(page, 0, case);
-    show(page, past);
+    show(stdout, page, past);
 }
 
 // A frame that is cut off, if any of it came.
-fn cut(page: &mut [u8], case: u64, got: usize) -> bool {
+fn cut(stdout: &mut Stdout, page: &mut [u8], case: u64, got: usize) -> bool {
     if got == 0 {
         return false;
     }
-    show_case(page, case);
-    stop(Taken::Part(got))
+    show_case(stdout, page, case);
+    stop(stdout, Taken::Part(got))
 }
 
 // One case, and whether another may follow.
-fn one(case: u64, text: &mut [u8], lits: &mut [i32], page: &mut [u8]) -> bool {
+fn one(
+    stdin: &mut Stdin,
+    stdout: &mut Stdout,
+    case: u64,
+    text: &mut [u8],
+    lits: &mut [i32],
+    page: &mut [u8],
+) -> bool {
     let mut frame = [0u8; 10];
-    let taken = console::take(&mut frame);
+    let taken = console::take(stdin, &mut frame);
     match taken {
         Taken::Whole => {
-            show_case(page, case);
-            framed(head_of(&frame), text, lits, page)
+            show_case(stdout, page, case);
+            framed(stdin, stdout, head_of(&frame), text, lits, page)
         }
-        Taken::Part(got) => cut(page, case, got),
-        Taken::Failed => stop(taken),
+        Taken::Part(got) => cut(stdout, page, case, got),
+        Taken::Failed => stop(stdout, taken),
     }
 }
 
-fn cases(text: &mut [u8], lits: &mut [i32], page: &mut [u8]) {
+fn cases(
+    stdin: &mut Stdin,
+    stdout: &mut Stdout,
+    text: &mut [u8],
+    lits: &mut [i32],
+    page: &mut [u8],
+) {
     let mut case: u64 = 0;
-    while case < LARGEST && one(case, text, lits, page) {
+    while case < LARGEST && one(stdin, stdout, case, text, lits, page) {
         case += 1;
     }
 }
 
-fn main() {
-    let mut text = io::large_buffer();
+fn main(rt: HostRuntime) {
+    let mut stdin = rt.stdin();
+    let mut stdout = rt.stdout();
+    let mut text = [0u8; 65536];
     let mut lits = [0i32; 4096];
-    let mut page = io::large_buffer();
-    cases(&mut text, &mut lits, &mut page);
+    let mut page = [0u8; 65536];
+    cases(&mut stdin, &mut stdout, &mut text, &mut lits, &mut page);
 }

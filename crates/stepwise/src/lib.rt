@@ -1,6 +1,6 @@
 // Texts read clause by clause, and logs, for callers in other languages: the cursor is lent as words, and what a call answers is left as words.
 //
-// Each call goes by the C calling convention, with formats and modes by number. host/latchtwig.h declares them for C, host/rust for Rust.
+// Each call takes formats and modes by number. `stepwise_c` exports them by the C calling convention; host/latchtwig.h declares them for C, host/rust for Rust.
 #![tactic(auto)]
 
 ghost use Rattle.std.specs.Prelude.{◌≡◌, length};
@@ -17,8 +17,7 @@ use numbers::narrowed;
 
 // The text opened by the numbers of a format of clauses and a mode: 0 for no header, 1 for a header, 2 for a refusal. The array holds the refusal's number, place, line and column, and the
 // header's variables, clauses and third count; the cursor's words hold where the clauses begin.
-#[unsafe(no_mangle)]
-pub extern "C" fn latchtwig_open(
+pub fn latchtwig_open(
     format: u32,
     mode: u32,
     text: &[u8],
@@ -37,8 +36,7 @@ pub extern "C" fn latchtwig_open(
 
 // The next answer from the cursor that the words hold: 0 for the end, 1 for a clause, 2 for a refusal. The array holds the refusal's number, place, line and column, the count of literals that
 // the buffer holds, and the clause's weight or group, 0 for a hard clause of the 2022 form; the cursor's words hold where to go on. Words that no opening left are refused by 26.
-#[unsafe(no_mangle)]
-pub extern "C" fn latchtwig_next(
+pub fn latchtwig_next(
     text: &[u8],
     cursor: &mut [u64; WORDS],
     lits: &mut [i32],
@@ -57,13 +55,7 @@ pub extern "C" fn latchtwig_next(
 
 // The log by the number of a mode: 1 for a verdict, 2 for a refusal. The array holds the refusal's number, place, line and column, the count of literals that the buffer holds, and the
 // verdict: 0 none, 1 satisfiable, 2 unsatisfiable, 3 unknown.
-#[unsafe(no_mangle)]
-pub extern "C" fn latchtwig_log(
-    mode: u32,
-    text: &[u8],
-    lits: &mut [i32],
-    answer: &mut [u64; LOG_WORDS],
-) -> u32
+pub fn latchtwig_log(mode: u32, text: &[u8], lits: &mut [i32], answer: &mut [u64; LOG_WORDS]) -> u32
     ensures { Logs mode text.now lits.old lits.new answer.new result }
 {
     let log = sat_solver_log::parse_log(text, narrowed(mode as u64), lits);
@@ -72,8 +64,7 @@ pub extern "C" fn latchtwig_log(
 }
 
 // How long the word is at the place of a refusal, by the number of the mode in which the text was read: 0 at a line end or the end of the text, and where no mode is named.
-#[unsafe(no_mangle)]
-pub extern "C" fn latchtwig_word(mode: u32, text: &[u8], place: u64) -> u64
+pub fn latchtwig_word(mode: u32, text: &[u8], place: u64) -> u64
     ensures { result ≡ length (word_by (kind_of log_format mode) text.now place) }
 {
     match kind_of(LOG_FORMAT, narrowed(mode as u64)) {

@@ -13,6 +13,7 @@ ghost use Rattle.token_cases.specs.Answers.{bit, printed_past, printed_end_of_li
 
 use console::Taken;
 use dimacs::{EndOfLine, Ends, Int, Uint};
+use std::io::{Stdin, Stdout};
 
 // The longest text.
 const TEXT: usize = 255;
@@ -171,26 +172,26 @@ fn ends_of(b: u8) -> Ends {
 }
 
 // The place, the limit and what ends a line of a case, and whether another case may follow.
-fn asked(page: &mut [u8], text: &[u8]) -> bool {
+fn asked(stdin: &mut Stdin, stdout: &mut Stdout, page: &mut [u8], text: &[u8]) -> bool {
     let mut numbers = [0u8; 17];
-    let taken = console::take(&mut numbers);
+    let taken = console::take(stdin, &mut numbers);
     let Taken::Whole = taken else {
-        return console::stop(taken);
+        return console::stop(stdout, taken);
     };
     let from = frame::u64_at(&numbers, 0) as usize;
     let ends = ends_of(frame::u8_at(&numbers, 16));
     let past = token_line(page, 0, text, ends, from, frame::u64_at(&numbers, 8));
-    console::print(pages::upto(page, past));
+    console::print(stdout, pages::upto(page, past));
     true
 }
 
 // The rest of a case whose text fills the slice lent, and whether another case may follow.
-fn case(page: &mut [u8], text: &mut [u8]) -> bool {
-    let taken = console::take(text);
+fn case(stdin: &mut Stdin, stdout: &mut Stdout, page: &mut [u8], text: &mut [u8]) -> bool {
+    let taken = console::take(stdin, text);
     let Taken::Whole = taken else {
-        return console::stop(taken);
+        return console::stop(stdout, taken);
     };
-    asked(page, text)
+    asked(stdin, stdout, page, text)
 }
 
 fn size(b: u8) -> usize
@@ -200,28 +201,30 @@ fn size(b: u8) -> usize
 }
 
 // One case, and whether another may follow. Its first byte is there or the input has ended.
-fn one(page: &mut [u8]) -> bool {
+fn one(stdin: &mut Stdin, stdout: &mut Stdout, page: &mut [u8]) -> bool {
     let mut first = [0u8; 1];
-    let taken = console::take(&mut first);
+    let taken = console::take(stdin, &mut first);
     match taken {
         Taken::Whole => {
             let n = size(frame::u8_at(&first, 0));
             let mut text = [0u8; TEXT];
-            case(page, &mut text[..n])
+            case(stdin, stdout, page, &mut text[..n])
         }
         Taken::Part(_) => false,
-        Taken::Failed => console::stop(taken),
+        Taken::Failed => console::stop(stdout, taken),
     }
 }
 
-fn cases(page: &mut [u8]) {
+fn cases(stdin: &mut Stdin, stdout: &mut Stdout, page: &mut [u8]) {
     let mut turns = u64::MAX;
-    while turns > 0 && one(page) {
+    while turns > 0 && one(stdin, stdout, page) {
         turns -= 1;
     }
 }
 
-fn main() {
+fn main(rt: HostRuntime) {
+    let mut stdin = rt.stdin();
+    let mut stdout = rt.stdout();
     let mut page = [0u8; PAGE];
-    cases(&mut page);
+    cases(&mut stdin, &mut stdout, &mut page);
 }

@@ -11,6 +11,7 @@ ghost use Rattle.std.specs.Prelude.{◌≤◌};
 use console::{Taken, print, stop, take};
 use dimacs::{Format, LARGEST};
 use lines::{number, upto, word};
+use std::io::{Stdin, Stdout};
 use tray::{Front, PutAnswer, Tray, TurnAnswer, WithdrawAnswer};
 use tray_lines::said_words;
 
@@ -63,14 +64,14 @@ fn change_of(frame: &[u8]) -> Call {
 }
 
 // Where the next call begins after one of no kind is not known.
-fn unknown() -> Call {
-    print(b"unknown\n");
+fn unknown(stdout: &mut Stdout) -> Call {
+    print(stdout, b"unknown\n");
     Call::Nothing
 }
 
 // After what did not come whole no call is made.
-fn stopped(taken: Taken) -> Call {
-    stop(taken);
+fn stopped(stdout: &mut Stdout, taken: Taken) -> Call {
+    stop(stdout, taken);
     Call::Nothing
 }
 
@@ -88,35 +89,35 @@ fn size(kind: u8) -> usize
 }
 
 // The call that these bytes are.
-fn call_of(kind: u8, frame: &[u8; LONGEST]) -> Call {
+fn call_of(stdout: &mut Stdout, kind: u8, frame: &[u8; LONGEST]) -> Call {
     match kind {
         0 => put_of(frame),
         1 => turn_of(frame),
         2 => Call::Withdraw(frame::u64_at(frame, 0)),
         3 => change_of(frame),
-        _ => unknown(),
+        _ => unknown(stdout),
     }
 }
 
 // The bytes that follow a kind, and the call that they are. One that the input's end cuts off is not made.
-fn call_of_kind(kind: u8) -> Call {
+fn call_of_kind(stdin: &mut Stdin, stdout: &mut Stdout, kind: u8) -> Call {
     let mut frame = [0u8; LONGEST];
     let n = size(kind);
-    let taken = take(&mut frame[..n]);
+    let taken = take(stdin, &mut frame[..n]);
     if let Taken::Whole = taken {
-        return call_of(kind, &frame);
+        return call_of(stdout, kind, &frame);
     }
-    stopped(taken)
+    stopped(stdout, taken)
 }
 
 // The next call, or none at the input's end.
-fn next_call() -> Call {
+fn next_call(stdin: &mut Stdin, stdout: &mut Stdout) -> Call {
     let mut kind = [0u8; 1];
-    let taken = take(&mut kind);
+    let taken = take(stdin, &mut kind);
     match taken {
-        Taken::Whole => call_of_kind(frame::u8_at(&kind, 0)),
+        Taken::Whole => call_of_kind(stdin, stdout, frame::u8_at(&kind, 0)),
         Taken::Part(_) => Call::Nothing,
-        Taken::Failed => stopped(taken),
+        Taken::Failed => stopped(stdout, taken),
     }
 }
 
@@ -159,19 +160,26 @@ fn told_words(
     }
 }
 
-fn turn_line(page: &mut [u8], tray: Tray, area: &[u8], lits: &mut [i32]) -> Tray {
+fn turn_line(
+    stdout: &mut Stdout,
+    page: &mut [u8],
+    tray: Tray,
+    area: &[u8],
+    lits: &mut [i32],
+) -> Tray {
     let format = front_format(tray);
     let done = tray::turn(tray, area, lits);
     let answer = done.answer;
     let at = word(page, 0, b"turn");
     let past_words = told_words(page, at, answer, format, lits);
     let past = word(page, past_words, b"\n");
-    print(upto(page, past));
+    print(stdout, upto(page, past));
     done.tray
 }
 
 // A turn with no more of the area and of the buffer than is to be lent.
 fn lent_turn(
+    stdout: &mut Stdout,
     page: &mut [u8],
     tray: Tray,
     lent: usize,
@@ -181,7 +189,7 @@ fn lent_turn(
 ) -> Tray {
     let most = frame::smaller(lent, area.len());
     let count = frame::smaller(room, lits.len());
-    turn_line(page, tray, &area[..most], &mut lits[..count])
+    turn_line(stdout, page, tray, &area[..most], &mut lits[..count])
 }
 
 fn put_words(page: &mut [u8], at: usize, answer: PutAnswer) -> usize {
@@ -191,13 +199,13 @@ fn put_words(page: &mut [u8], at: usize, answer: PutAnswer) -> usize {
     }
 }
 
-fn put_line(page: &mut [u8], tray: Tray, put: Put, area: &[u8]) -> Tray {
+fn put_line(stdout: &mut Stdout, page: &mut [u8], tray: Tray, put: Put, area: &[u8]) -> Tray {
     let done = tray::put(tray, put.format, put.mode, put.start, put.length, area);
     let answer = done.answer;
     let at = word(page, 0, b"put");
     let past_words = put_words(page, at, answer);
     let past = word(page, past_words, b"\n");
-    print(upto(page, past));
+    print(stdout, upto(page, past));
     done.tray
 }
 
@@ -208,13 +216,13 @@ fn withdraw_words(page: &mut [u8], at: usize, answer: WithdrawAnswer) -> usize {
     }
 }
 
-fn withdraw_line(page: &mut [u8], tray: Tray, ticket: u64) -> Tray {
+fn withdraw_line(stdout: &mut Stdout, page: &mut [u8], tray: Tray, ticket: u64) -> Tray {
     let done = tray::withdraw(tray, ticket);
     let answer = done.answer;
     let at = word(page, 0, b"withdraw");
     let past_words = withdraw_words(page, at, answer);
     let past = word(page, past_words, b"\n");
-    print(upto(page, past));
+    print(stdout, upto(page, past));
     done.tray
 }
 
@@ -225,11 +233,18 @@ fn change(area: &mut [u8], at: usize, byte: u8) {
     }
 }
 
-fn made(page: &mut [u8], tray: Tray, call: Call, area: &mut [u8], lits: &mut [i32]) -> Tray {
+fn made(
+    stdout: &mut Stdout,
+    page: &mut [u8],
+    tray: Tray,
+    call: Call,
+    area: &mut [u8],
+    lits: &mut [i32],
+) -> Tray {
     match call {
-        Call::Put(put) => put_line(page, tray, put, area),
-        Call::Turn { lent, room } => lent_turn(page, tray, lent, room, area, lits),
-        Call::Withdraw(ticket) => withdraw_line(page, tray, ticket),
+        Call::Put(put) => put_line(stdout, page, tray, put, area),
+        Call::Turn { lent, room } => lent_turn(stdout, page, tray, lent, room, area, lits),
+        Call::Withdraw(ticket) => withdraw_line(stdout, page, tray, ticket),
         Call::Change { at, byte } => {
             change(area, at, byte);
             tray
@@ -238,46 +253,74 @@ fn made(page: &mut [u8], tray: Tray, call: Call, area: &mut [u8], lits: &mut [i3
     }
 }
 
-fn calls(page: &mut [u8], area: &mut [u8], lits: &mut [i32]) {
+fn calls(
+    stdin: &mut Stdin,
+    stdout: &mut Stdout,
+    page: &mut [u8],
+    area: &mut [u8],
+    lits: &mut [i32],
+) {
     let mut tray = tray::empty();
     let mut count: u64 = 0;
     while count < LARGEST {
-        let call = next_call();
+        let call = next_call(stdin, stdout);
         if let Call::Nothing = call {
             return;
         }
-        tray = made(page, tray, call, area, lits);
+        tray = made(stdout, page, tray, call, area, lits);
         count += 1;
     }
 }
 
 // The area's bytes, and the calls.
-fn area_calls(page: &mut [u8], area: &mut [u8], lits: &mut [i32]) {
-    let taken = take(area);
+fn area_calls(
+    stdin: &mut Stdin,
+    stdout: &mut Stdout,
+    page: &mut [u8],
+    area: &mut [u8],
+    lits: &mut [i32],
+) {
+    let taken = take(stdin, area);
     if let Taken::Whole = taken {
-        return calls(page, area, lits);
+        return calls(stdin, stdout, page, area, lits);
     }
-    stop(taken);
+    stop(stdout, taken);
 }
 
 // The same with an area of this length, if there is so much of it.
-fn sized_calls(length: usize, page: &mut [u8], area: &mut [u8], lits: &mut [i32]) {
+fn sized_calls(
+    stdin: &mut Stdin,
+    stdout: &mut Stdout,
+    length: usize,
+    page: &mut [u8],
+    area: &mut [u8],
+    lits: &mut [i32],
+) {
     if area.len() < length {
-        print(b"too long\n");
+        print(stdout, b"too long\n");
         return;
     }
-    area_calls(page, &mut area[..length], lits)
+    area_calls(stdin, stdout, page, &mut area[..length], lits)
 }
 
-fn main() {
-    let mut area = io::large_buffer();
+fn main(rt: HostRuntime) {
+    let mut stdin = rt.stdin();
+    let mut stdout = rt.stdout();
+    let mut area = [0u8; 65536];
     let mut lits = [0i32; 4096];
     let mut page = [0u8; PAGE];
     let mut size = [0u8; 4];
-    let taken = take(&mut size);
+    let taken = take(&mut stdin, &mut size);
     if let Taken::Whole = taken {
         let length = frame::u32_at(&size, 0) as usize;
-        return sized_calls(length, &mut page, &mut area, &mut lits);
+        return sized_calls(
+            &mut stdin,
+            &mut stdout,
+            length,
+            &mut page,
+            &mut area,
+            &mut lits,
+        );
     }
-    stop(taken);
+    stop(&mut stdout, taken);
 }

@@ -13,6 +13,7 @@ ghost use Rattle.tray.specs.Calls.{put_of, Turns};
 use console::print;
 use dimacs::{Format, PLACES, ROOM};
 use lines::{number, upto, word};
+use std::io::Stdout;
 use tray::{Front, Job, PutAnswer, PutDone, Tray, TurnAnswer, TurnDone};
 use tray_lines::said_words;
 
@@ -117,13 +118,19 @@ fn ticket_words(page: &mut [u8], ticket: u64) -> usize {
 }
 
 // A ticket is printed, and the turns that had been taken when it was given are kept.
-fn put_line(page: &mut [u8], answer: PutAnswer, begun: &mut [usize; TICKETS], turns: usize) {
+fn put_line(
+    stdout: &mut Stdout,
+    page: &mut [u8],
+    answer: PutAnswer,
+    begun: &mut [usize; TICKETS],
+    turns: usize,
+) {
     match answer {
         PutAnswer::Refused(_) => {}
         PutAnswer::Ticket(ticket) => {
             let at = ticket_words(page, ticket);
             let past = word(page, at, b"put\n");
-            print(upto(page, past));
+            print(stdout, upto(page, past));
             let slot = (ticket as usize) % TICKETS;
             begun[slot] = turns;
         }
@@ -132,6 +139,7 @@ fn put_line(page: &mut [u8], answer: PutAnswer, begun: &mut [usize; TICKETS], tu
 
 // The next order is put, if one is left and there is a place. As many are put as there are tickets.
 fn feed(
+    stdout: &mut Stdout,
     page: &mut [u8],
     tray: Tray,
     area: &[u8; AREA],
@@ -144,7 +152,7 @@ fn feed(
     }
     let done = put_order(tray, area, order);
     let answer = done.answer;
-    put_line(page, answer, begun, turns);
+    put_line(stdout, page, answer, begun, turns);
     done.tray
 }
 
@@ -170,7 +178,14 @@ fn last_words(page: &mut [u8], at: usize, last: bool, taken: usize, bytes: usize
 }
 
 // What a turn tells a job. With its verdict come the turns that it took.
-fn told_line(page: &mut [u8], answer: TurnAnswer, job: Job, taken: usize, lits: &[i32]) {
+fn told_line(
+    stdout: &mut Stdout,
+    page: &mut [u8],
+    answer: TurnAnswer,
+    job: Job,
+    taken: usize,
+    lits: &[i32],
+) {
     match answer {
         TurnAnswer::Refused(_) => {}
         TurnAnswer::Told { ticket, said, last } => {
@@ -189,13 +204,14 @@ fn told_line(page: &mut [u8], answer: TurnAnswer, job: Job, taken: usize, lits: 
             );
             let past_turns = last_words(page, past_said, last, taken, job.length);
             let past = word(page, past_turns, b"\n");
-            print(upto(page, past));
+            print(stdout, upto(page, past));
         }
     }
 }
 
 // The turn of this number.
 fn turn_line(
+    stdout: &mut Stdout,
     page: &mut [u8],
     tray: Tray,
     area: &[u8; AREA],
@@ -208,39 +224,51 @@ fn turn_line(
     let taken = less(turn, begun[slot]);
     let done = turn_lent(tray, area, lits);
     let answer = done.answer;
-    told_line(page, answer, job, taken, lits);
+    told_line(stdout, page, answer, job, taken, lits);
     done.tray
 }
 
 // As many orders as there are places.
-fn fill(page: &mut [u8], area: &[u8; AREA], begun: &mut [usize; TICKETS]) -> Tray {
+fn fill(
+    stdout: &mut Stdout,
+    page: &mut [u8],
+    area: &[u8; AREA],
+    begun: &mut [usize; TICKETS],
+) -> Tray {
     let mut tray = tray::empty();
     for _ in 0..PLACES {
-        tray = feed(page, tray, area, begun, 0);
+        tray = feed(stdout, page, tray, area, begun, 0);
     }
     tray
 }
 
-fn run(page: &mut [u8], area: &[u8; AREA], lits: &mut [i32], begun: &mut [usize; TICKETS]) -> Tray {
-    let mut tray = fill(page, area, begun);
+fn run(
+    stdout: &mut Stdout,
+    page: &mut [u8],
+    area: &[u8; AREA],
+    lits: &mut [i32],
+    begun: &mut [usize; TICKETS],
+) -> Tray {
+    let mut tray = fill(stdout, page, area, begun);
     for turn in 1..=DAY {
-        tray = turn_line(page, tray, area, lits, begun, turn);
-        tray = feed(page, tray, area, begun, turn);
+        tray = turn_line(stdout, page, tray, area, lits, begun, turn);
+        tray = feed(stdout, page, tray, area, begun, turn);
     }
     tray
 }
 
 // How many tickets were given, and how many jobs still wait.
-fn day_line(page: &mut [u8], given: u64, waiting: u64) {
+fn day_line(stdout: &mut Stdout, page: &mut [u8], given: u64, waiting: u64) {
     let past_word = word(page, 0, b"tickets");
     let past_given = number(page, past_word, given);
     let past_comma = word(page, past_given, b", waiting");
     let past_waiting = number(page, past_comma, waiting);
     let past = word(page, past_waiting, b"\n");
-    print(upto(page, past));
+    print(stdout, upto(page, past));
 }
 
-fn main() {
+fn main(rt: HostRuntime) {
+    let mut stdout = rt.stdout();
     let area = b"\x001 0 2 0\n\
         \x00c oak fronts, no glass\np cnf 3 3\n1 2 0\n-1 -2 0\n1 -3 0\n\
         \x004 0\n-4 5 0\n\
@@ -255,6 +283,6 @@ fn main() {
     let mut lits = [0i32; ROOM];
     let mut begun = [0usize; TICKETS];
     let mut page = [0u8; PAGE];
-    let tray = run(&mut page, area, &mut lits, &mut begun);
-    day_line(&mut page, tray.given, tray.count as u64);
+    let tray = run(&mut stdout, &mut page, area, &mut lits, &mut begun);
+    day_line(&mut stdout, &mut page, tray.given, tray.count as u64);
 }

@@ -6,7 +6,7 @@ use mir.Val.{Val}
 use base.Logic.{ent, via, fst∗}
 use prog.Wp.{Calls, Loops, WpFn, Closed}
 use prog.Model.{Model}
-use prog.Routine.{Name, Env}
+use prog.Routine.{Callee, Env}
 use sound.Laws.{of_model}
 use sound.WpLaws.{FmC, fm_of, WpFn-mono}
 use types.Logic.{Logic}
@@ -55,7 +55,7 @@ module _ {M : Type 1} {𝓤 : Ura M} (𝓛 : Logic 𝓤) (𝓜 : Model 𝓤 𝓛
   -- The function of the key k, whose code is f, meets its contract, where its walk does over what its calls mean.
   open 𝓛 use {H}
 
-  pub proved : (T : Ended) (c : Clauses 𝓤 T) (ps : Params T.signature.params T.kept) (γ : Env) (k : Name) (f : Fn) → Closed 𝓤 H (tables 𝓤 H 𝓜 𝓡 γ).C (tables 𝓤 H 𝓜 𝓡 γ).Λ k f
+  pub proved : (T : Ended) (c : Clauses 𝓤 T) (ps : Params T.signature.params T.kept) (γ : Env) (k : Callee) (f : Fn) → Closed 𝓤 H (tables 𝓤 H 𝓜 𝓡 γ).C (tables 𝓤 H 𝓜 𝓡 γ).Λ k f
       → (FmC 𝓤 H (of_model 𝓤 H 𝓜) (tables 𝓤 H 𝓜 𝓡 γ).C → Walk 𝓛 T c ps (tables 𝓤 H 𝓜 𝓡 γ).C (tables 𝓤 H 𝓜 𝓡 γ).Λ f)
       → Triple 𝓤 ((tables 𝓤 H 𝓜 𝓡 γ).C k) (triple_of 𝓛 T.signature (closing 𝓛 T c))
   unfolding tables_of

@@ -3,7 +3,7 @@ use Prim.Native.Nat.{ℕ}
 use mathlib.Core.List.{List, [], ◌∷◌}
 use mathlib.Core.Path.{◌≡◌, refl, sym}
 use seplogic.Ra.Ura.{Ura}
-use seplogic.Ra.TreeShare.{full_share}
+use base.Fraction.{full_share}
 use mir.Raw.{raw as raw_ty}
 use mir.Syntax.{Ty, Lifetime}
 use mir.Val.{Val, vptr}
@@ -23,20 +23,20 @@ use denote.Struct.Steps.{spelt}
 module _ (D : Declared) (L : LL.Laws D) where
   -- The cell behind the reference x, of the type τ, holds the struct h.
   abbrev pub Cell : Ty → MutBor D.D → D.D → Fml
-  Cell τ x h = fat full_share τ x.ptr.0 x.ptr.1 (LL.val D L h)
+  Cell τ x h = fat full_share τ x.ref_ptr.0 x.ref_ptr.1 (LL.val D L h)
 
   abbrev pub Owned : D.D → Fml
   Owned h = (row D).own_val h (LL.vals D L h)
 
   abbrev pub Lent : Lifetime → Lft → MutBor D.D → Fml
-  Lent ℓ κ x = (MutRef ℓ κ (row D)).own_val x (vptr x.ptr.0 x.ptr.1 ∷ [])
+  Lent ℓ κ x = (MutRef ℓ κ (row D)).own_val x (vptr x.ref_ptr.0 x.ref_ptr.1 ∷ [])
 
   -- What lies in memory is the cell of the type τ, whose lifetimes memory does not have.
   abbrev pub Lies : Ty → Type 1
   Lies τ = (v : Val) (b o : ℕ) → cell_at full_share (row D).mir (v ∷ []) b o ≡ fat full_share (raw_ty τ) b o v
 
   abbrev pub Opened : Lft → Share → MutBor D.D → Fml
-  Opened κ q x = fobor κ q (Body (mem (row D)) x.ptr.0 x.ptr.1 x.name)
+  Opened κ q x = fobor κ q (Body (mem (row D)) x.ref_ptr.0 x.ref_ptr.1 x.ghost_name)
 
 module _ {M : Type 1} {𝓤 : Ura M} {𝓛 : Logic 𝓤} {K : Type 0} {Γ : List (Item 𝓤)} {G : Goal 𝓤 𝓛.H} where
   -- The reference is opened: the cell, what the struct owns, and the open borrow.

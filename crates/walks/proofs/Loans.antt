@@ -3,8 +3,7 @@ use Prim.Native.Nat.{ℕ}
 use mathlib.Core.List.{List, [], ◌∷◌}
 use mathlib.Core.Path.{refl, sym}
 use seplogic.Ra.Ura.{Ura}
-use seplogic.Ra.TreeShare.PosShare
-use seplogic.Ra.TreeShare.{full_share}
+use base.Fraction.{full_share, left, right}
 use mir.Raw.{raw as raw_ty}
 use mir.Syntax.{Ty, Lifetime}
 use mir.Val.{Val}
@@ -27,28 +26,28 @@ use Rattle.walks.proofs.Lent.{Cell, Owned, Lent, Lies}
 
 -- The loan of the struct behind x for κ.
 abbrev pub Loan : (D : Declared) → Lft → MutBor D.D → Fml
-Loan D κ x = flent κ (Body (mem (row D)) x.ptr.0 x.ptr.1 x.name)
+Loan D κ x = flent κ (Body (mem (row D)) x.ref_ptr.0 x.ref_ptr.1 x.ghost_name)
 
 -- What the share that was handed out of the token of ν is given back for.
 abbrev pub Rest : {M : Type 1} {𝓤 : Ura M} (𝓛 : Logic 𝓤) → ℕ → Share → Item 𝓤
-Rest {𝓤 = 𝓤} 𝓛 ν q = raw (wand 𝓤 (𝓛.A.lft (ν ∷ []) (PosShare.left q)) (𝓛.A.lft (ν ∷ []) full_share))
+Rest {𝓤 = 𝓤} 𝓛 ν q = raw (wand 𝓤 (𝓛.A.lft (ν ∷ []) (left q)) (𝓛.A.lft (ν ∷ []) full_share))
 
 module _ {M : Type 1} {𝓤 : Ura M} {𝓛 : Logic 𝓤} {K : Type 0} {Γ : List (Item 𝓤)} {G : Goal 𝓤 𝓛.H} where
   -- A lifetime is made within κ, with a token of it and of κ.
   open 𝓛 use {A}
 
-  pub within : K → Soaks G → {κ : Lft} {q : Share} → ((ν : ℕ) → Seq K 𝓛 (‵ (flft (ν ∷ κ) (PosShare.left q)) ∷ ‵ (flft κ (PosShare.right q)) ∷ Rest 𝓛 ν q ∷ Γ) G) → Seq K 𝓛 (‵ (flft κ q) ∷ Γ) G
+  pub within : K → Soaks G → {κ : Lft} {q : Share} → ((ν : ℕ) → Seq K 𝓛 (‵ (flft (ν ∷ κ) (left q)) ∷ ‵ (flft κ (right q)) ∷ Rest 𝓛 ν q ∷ Γ) G) → Seq K 𝓛 (‵ (flft κ q) ∷ Γ) G
   within t z {κ} {q} k = lft_new t z (λ ν.
-      use1 𝓛 (‵ (flft (ν ∷ []) (PosShare.left q)) ⊛ Rest 𝓛 ν q) (𝓛.lfts.lft_carve ν (PosShare.left q)) $ split t $ move t (2 ∷ []) $
-      use1 𝓛 (‵ (flft κ (PosShare.left q)) ⊛ ‵ (flft κ (PosShare.right q))) (𝓛.lfts.lft_split κ q) $ split t $ move t (2 ∷ 0 ∷ []) $
-      use2 𝓛 (‵ (flft (ν ∷ κ) (PosShare.left q))) (𝓛.lfts.lft_meet (ν ∷ []) κ (PosShare.left q)) $ k ν)
+      use1 𝓛 (‵ (flft (ν ∷ []) (left q)) ⊛ Rest 𝓛 ν q) (𝓛.lfts.lft_carve ν (left q)) $ split t $ move t (2 ∷ []) $
+      use1 𝓛 (‵ (flft κ (left q)) ⊛ ‵ (flft κ (right q))) (𝓛.lfts.lft_split κ q) $ split t $ move t (2 ∷ 0 ∷ []) $
+      use2 𝓛 (‵ (flft (ν ∷ κ) (left q))) (𝓛.lfts.lft_meet (ν ∷ []) κ (left q)) $ k ν)
 
   -- It is over, and the token of κ is whole again.
-  pub over : K → Soaks G → (ν : ℕ) (κ : Lft) (q : Share) → Step K 𝓛 (‵ (fdead (ν ∷ κ)) ∷ ‵ (flft κ q) ∷ Γ) G (‵ (flft (ν ∷ κ) (PosShare.left q)) ∷ ‵ (flft κ (PosShare.right q)) ∷ Rest 𝓛 ν q ∷ Γ) G
+  pub over : K → Soaks G → (ν : ℕ) (κ : Lft) (q : Share) → Step K 𝓛 (‵ (fdead (ν ∷ κ)) ∷ ‵ (flft κ q) ∷ Γ) G (‵ (flft (ν ∷ κ) (left q)) ∷ ‵ (flft κ (right q)) ∷ Rest 𝓛 ν q ∷ Γ) G
   over t z ν κ q = step (λ s.
-      use1 𝓛 (‵ (flft (ν ∷ []) (PosShare.left q)) ⊛ ‵ (flft κ (PosShare.left q))) (𝓛.lfts.lft_unmeet (ν ∷ []) κ (PosShare.left q)) $ split t $ move t (1 ∷ 2 ∷ []) $
+      use1 𝓛 (‵ (flft (ν ∷ []) (left q)) ⊛ ‵ (flft κ (left q))) (𝓛.lfts.lft_unmeet (ν ∷ []) κ (left q)) $ split t $ move t (1 ∷ 2 ∷ []) $
       use2 𝓛 (‵ (flft κ q)) (𝓛.lfts.lft_join κ q) $ move t (1 ∷ 2 ∷ []) $
-      use2 𝓛 (‵ (flft (ν ∷ []) full_share)) (apply∗ 𝓤 (A.lft (ν ∷ []) (PosShare.left q)) (A.lft (ν ∷ []) full_share)) $ lft_end t z $
+      use2 𝓛 (‵ (flft (ν ∷ []) full_share)) (apply∗ 𝓤 (A.lft (ν ∷ []) (left q)) (A.lft (ν ∷ []) full_share)) $ lft_end t z $
       use1 𝓛 (‵ (fdead (ν ∷ κ))) (𝓛.lfts.dead-incl (ν ∷ κ) (ν ∷ []) (meet_⊑_left (ν ∷ []) κ)) $ s)
 
   -- The struct is lent for κ.

@@ -1,7 +1,6 @@
 -- The words of a walk, passed on from the logic and from the laws beside this file, so that a walk names one file. Assumes nothing.
 pub use seplogic.Ra.Ura.{Ura}
-pub use seplogic.Ra.TreeShare.PosShare.{left as PosShare·left}
-pub use seplogic.Ra.TreeShare.PosShare.{right as PosShare·right}
+pub use base.Fraction.{left as left_half, right as right_half}
 pub use mir.Syntax.{named, erased, w8, w64, w32}
 pub use mir.Val.{Val, vint, vptr}
 pub use base.Logic.{SProp, id⊢}
@@ -13,7 +12,6 @@ pub use ghost.Atoms.{Atoms}
 pub use sound.WpLaws.{FmC}
 pub use contract.BorrowLft.{meet_⊑_right}
 pub use contract.Monad.{Fun}
-pub use contract.Running.{given_of}
 pub use denote.Builtin.{u8, i32, usize}
 pub use denote.Laws.{Is}
 pub use denote.Plain.{uint_Tells, uint_Makes, uint_Lawful}
@@ -25,7 +23,8 @@ pub use denote.Steps.{owned, nothing}
 pub use denote.Triple.Statement.{Triple}
 pub use denote.Triple.Table.{cited}
 pub use denote.Triple.Walked.{says}
-pub use types.Kit.{Given, ‵, ◌⊛◌, ◌$◌, ◌∵◌, !, qed, move, drop, use1, split, join, fsplit, fjoin, feq_l, frame, done, by, keep, raw, use2, rewrite}
+pub use types.Logic.{Logic}
+pub use types.Kit.{‵, ◌⊛◌, ◌$◌, ◌∵◌, !, qed, move, drop, use1, split, join, fsplit, fjoin, feq_l, frame, done, by, keep, raw, use2, rewrite}
 pub use types.Part.{agg, whole, sub, look_in, store_in}
 pub use types.Run.{look, stop, hop, fld, from, addr, and_then, no_more, of_opd, returns, load, assigns}
 pub use Rattle.walks.proofs.Params.{Params, number, shared, passed_on, lent, copied}

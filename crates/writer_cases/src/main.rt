@@ -13,6 +13,7 @@ ghost use Rattle.writer_cases.specs.Answers.{written_line, refused_call_line, ca
 use answer_words::WRITTEN_WORDS;
 use console::Taken;
 use dimacs::{FORMAT_OR_MODE_UNKNOWN, LARGEST, Refusal};
+use std::io::{Stdin, Stdout};
 use writer::Written;
 
 // The bytes of a frame before its literals.
@@ -58,9 +59,9 @@ fn untouched(out: &[u8], from: usize) -> bool {
 }
 
 // Says so if a call changed more than its line. It is proved that none does.
-fn rest(out: &[u8], from: usize) {
+fn rest(stdout: &mut Stdout, out: &[u8], from: usize) {
     if !untouched(out, from) {
-        console::print(b"touched\n");
+        console::print(stdout, b"touched\n");
     }
 }
 
@@ -160,22 +161,22 @@ fn made(call: Call, lits: &[i32], out: &mut [u8]) -> Written {
 }
 
 // A call made on an output that is filled before it, and its answer printed.
-fn answer(page: &mut [u8], call: Call, lits: &[i32], out: &mut [u8]) {
+fn answer(stdout: &mut Stdout, page: &mut [u8], call: Call, lits: &[i32], out: &mut [u8]) {
     fill(out);
     let answer = made(call, lits, out);
     let past = call_line(page, 0, answer, out);
-    console::print(lines::upto(page, past));
-    rest(out, line_length(answer));
+    console::print(stdout, lines::upto(page, past));
+    rest(stdout, out, line_length(answer));
 }
 
 // Takes the next literals of the input, and answers whether they came; if not, that is told.
-fn literals(lits: &mut [i32]) -> bool {
+fn literals(stdin: &mut Stdin, stdout: &mut Stdout, lits: &mut [i32]) -> bool {
     let mut i: usize = 0;
     while i < lits.len() {
         let mut b = [0u8; 4];
-        let taken = console::take(&mut b);
+        let taken = console::take(stdin, &mut b);
         let Taken::Whole = taken else {
-            return console::stop(taken);
+            return console::stop(stdout, taken);
         };
         lits[i] = frame::signed32(frame::u32_at(&b, 0));
         i += 1;
@@ -184,11 +185,18 @@ fn literals(lits: &mut [i32]) -> bool {
 }
 
 // A call once its literals came, and whether another frame may follow.
-fn called(page: &mut [u8], call: Call, lits: &mut [i32], out: &mut [u8]) -> bool {
-    if !literals(lits) {
+fn called(
+    stdin: &mut Stdin,
+    stdout: &mut Stdout,
+    page: &mut [u8],
+    call: Call,
+    lits: &mut [i32],
+    out: &mut [u8],
+) -> bool {
+    if !literals(stdin, stdout, lits) {
         return false;
     }
-    answer(page, call, lits, out);
+    answer(stdout, page, call, lits, out);
     true
 }
 
@@ -203,63 +211,92 @@ fn call_of(frame: &[u8]) -> Call {
 }
 
 // Passes over literals that are more than are taken, and tells whether another frame may follow.
-fn long(length: usize) -> bool {
-    console::print(b"long\n");
-    let taken = console::skip(length);
+fn long(stdin: &mut Stdin, stdout: &mut Stdout, length: usize) -> bool {
+    console::print(stdout, b"long\n");
+    let taken = console::skip(stdin, length);
     let Taken::Whole = taken else {
-        return console::stop(taken);
+        return console::stop(stdout, taken);
     };
     true
 }
 
 // The call of a frame, its output and literals no longer than those lent, and whether another frame may follow.
-fn framed(page: &mut [u8], frame: &[u8], lits: &mut [i32], out: &mut [u8]) -> bool {
+fn framed(
+    stdin: &mut Stdin,
+    stdout: &mut Stdout,
+    page: &mut [u8],
+    frame: &[u8],
+    lits: &mut [i32],
+    out: &mut [u8],
+) -> bool {
     let given = frame::u32_at(frame, 30) as usize;
     if lits.len() < given {
-        return long(4 * given);
+        return long(stdin, stdout, 4 * given);
     }
     let lent = frame::smaller(frame::u32_at(frame, 2) as usize, out.len());
-    called(page, call_of(frame), &mut lits[..given], &mut out[..lent])
+    called(
+        stdin,
+        stdout,
+        page,
+        call_of(frame),
+        &mut lits[..given],
+        &mut out[..lent],
+    )
 }
 
-fn show_case(page: &mut [u8], case: u64) {
+fn show_case(stdout: &mut Stdout, page: &mut [u8], case: u64) {
     let past = lines::case_line(page, 0, case);
-    console::print(lines::upto(page, past));
+    console::print(stdout, lines::upto(page, past));
 }
 
 // A frame that is cut off, if any of it came.
-fn cut(page: &mut [u8], case: u64, got: usize) -> bool {
+fn cut(stdout: &mut Stdout, page: &mut [u8], case: u64, got: usize) -> bool {
     if got == 0 {
         return false;
     }
-    show_case(page, case);
-    console::stop(Taken::Part(got))
+    show_case(stdout, page, case);
+    console::stop(stdout, Taken::Part(got))
 }
 
 // One case, and whether another may follow.
-fn one(page: &mut [u8], case: u64, lits: &mut [i32], out: &mut [u8]) -> bool {
+fn one(
+    stdin: &mut Stdin,
+    stdout: &mut Stdout,
+    page: &mut [u8],
+    case: u64,
+    lits: &mut [i32],
+    out: &mut [u8],
+) -> bool {
     let mut frame = [0u8; HEAD];
-    let taken = console::take(&mut frame);
+    let taken = console::take(stdin, &mut frame);
     match taken {
         Taken::Whole => {
-            show_case(page, case);
-            framed(page, &frame, lits, out)
+            show_case(stdout, page, case);
+            framed(stdin, stdout, page, &frame, lits, out)
         }
-        Taken::Part(got) => cut(page, case, got),
-        Taken::Failed => console::stop(taken),
+        Taken::Part(got) => cut(stdout, page, case, got),
+        Taken::Failed => console::stop(stdout, taken),
     }
 }
 
-fn cases(page: &mut [u8], lits: &mut [i32], out: &mut [u8]) {
+fn cases(
+    stdin: &mut Stdin,
+    stdout: &mut Stdout,
+    page: &mut [u8],
+    lits: &mut [i32],
+    out: &mut [u8],
+) {
     let mut case: u64 = 0;
-    while case < LARGEST && one(page, case, lits, out) {
+    while case < LARGEST && one(stdin, stdout, page, case, lits, out) {
         case += 1;
     }
 }
 
-fn main() {
+fn main(rt: HostRuntime) {
+    let mut stdin = rt.stdin();
+    let mut stdout = rt.stdout();
     let mut page = [0u8; PAGE];
     let mut lits = [0i32; 8192];
     let mut out = [0u8; OUTPUT];
-    cases(&mut page, &mut lits, &mut out);
+    cases(&mut stdin, &mut stdout, &mut page, &mut lits, &mut out);
 }
