@@ -1,5 +1,5 @@
 -- `numeral::size` meets its contract: the digits up to i write v, which is below ten to the power of their count. Assumes nothing.
-use Prim.Native.Nat.{◌+◌, ◌-◌, ◌^◌, ◌≤◌, ◌<◌}
+use Prim.Native.Nat.{◌+◌, ◌-◌, ◌^◌, ◌<◌}
 use mathlib.Core.Path.{◌≡◌, ◌∙◌}
 use Rattle.dimacs.specs.Names.{ceiling}
 use Rattle.numeral.proofs.Runs.{read_none, digit_more, digit_stop, few_none, few_more, few_fit, written_is}

@@ -1,5 +1,4 @@
 -- `rows::ints` meets its contract: each way out, and each way on, by its law. Assumes nothing.
-use Prim.Native.Nat.{◌-◌}
 use mathlib.Core.Path.{◌≡◌, sym, ◌∙◌}
 use mir.Syntax.{w32}
 use mir.Val.{to_z, of_z}
