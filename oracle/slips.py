@@ -4,11 +4,12 @@
 Usage: slips.py [CRATE | CRATE/EDIT]...
 
 For each edit named, or of the code of the named crates (those of the readers and of the writer by default), a copy of the
-repository is edited, the program `reader_cases`, or `writer_cases` for the writer, is built from it without proof and given the
+crates is edited, the program `reader_cases`, or `writer_cases` for the writer, is run from it by `rt try`, without proof, on the
 vectors, and the first case that it answers otherwise than the oracle is printed. Edits that no case shows are printed
 as such.
 """
 
+import os
 import pathlib
 import re
 import shutil
@@ -23,6 +24,10 @@ sys.path.append(str(ROOT / "tools"))
 import frames
 
 CRATES = ["token", "numeral", "header", "rows", "clause", "formula", "log_line", "sat_solver_log", "decimals", "measures", "writer", "by_number"]
+
+
+# What `rt try` says by its status where it gives no answer of the program's.
+UNJUDGED = {1: "the compiler refuses it", 2: "rt stopped", 3: "rt came to a limit", 6: "the machine is too slow for rt's time limit"}
 
 
 def edited(crate, edit):
@@ -58,27 +63,27 @@ def main():
         for edit in sorted((ROOT / "crates" / name / "must-fail").glob(f"{only or '*'}.edit")):
             with tempfile.TemporaryDirectory() as work:
                 work = pathlib.Path(work)
-                shutil.copytree(ROOT / "crates", work / "crates")
+                shutil.copytree(ROOT / "crates", work / "crates", ignore=shutil.ignore_patterns("out"))
                 shutil.copy(ROOT / "crates.txt", work)
                 if edited(work / "crates" / name, edit) is None:
                     continue
-                said = subprocess.run(["rt", "try", program], cwd=work, capture_output=True, text=True, errors="replace").stdout
-            native = said[said.find("the native program") :]
-            differs = re.search(r"on standard output, at byte (\d+)", native)
+                with (ROOT / "crates" / program / "stdin").open("rb") as given:
+                    ran = subprocess.run(["rt", "try"], cwd=work / "crates" / program, stdin=given, capture_output=True)
             what = edit.read_text().splitlines()[0].lstrip("# ")
-            if "did not end within the time limit" in native:
+            if ran.returncode in UNJUDGED:
                 unjudged += 1
-                print(f"{name}/{edit.stem}: {what}: NOT JUDGED, the machine is too slow for rt's time limit")
-            elif differs:
-                caught += 1
-                number = int(re.findall(rb"^case (\d+)$", expected[: int(differs[1]) + 1], re.M)[-1])
-                print(f"{name}/{edit.stem}: {what}: case {number}, {cases[number]}")
-            elif "ok: the native program" in native:
-                missed += 1
-                print(f"{name}/{edit.stem}: {what}: NOT SEEN")
-            else:
+                print(f"{name}/{edit.stem}: {what}: NOT JUDGED, {UNJUDGED[ran.returncode]}")
+            elif ran.returncode != 0:
                 caught += 1
                 print(f"{name}/{edit.stem}: {what}: it does not end as it should")
+            elif ran.stdout != expected:
+                caught += 1
+                same = len(os.path.commonprefix([ran.stdout, expected]))
+                number = int(re.findall(rb"^case (\d+)$", expected[: expected.find(b"\n", same) + 1 or None], re.M)[-1])
+                print(f"{name}/{edit.stem}: {what}: case {number}, {cases[number]}")
+            else:
+                missed += 1
+                print(f"{name}/{edit.stem}: {what}: NOT SEEN")
             sys.stdout.flush()
     print(f"{caught} slips caught, {missed} not seen, {unjudged} not judged")
 

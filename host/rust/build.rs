@@ -5,7 +5,7 @@
 //! library `latchtwig`", below the warning.
 
 use std::env;
-use std::fs::OpenOptions;
+use std::fs::{self, OpenOptions};
 use std::io::Write;
 use std::path::{Path, PathBuf};
 use std::process::Command;
@@ -13,14 +13,11 @@ use std::process::Command;
 const VARIABLE: &str = "LATCHTWIG_LIB_DIR";
 const LIBRARY: &str = "liblatchtwig.a";
 
-/// What the library is made of and made by, in the repository.
-const SOURCES: [&str; 5] = [
-    "crates",
-    "crates.txt",
-    "host/build",
-    "tools/aim",
-    "tools/keep",
-];
+/// What the library is made by, in the repository, and which crates there are.
+const MAKERS: [&str; 2] = ["crates.txt", "host/build"];
+
+/// What it is made of, in each crate. Its `out` is not among them: proving writes there.
+const PARTS: [&str; 3] = ["src", "specs", "proofs"];
 
 fn main() {
     println!("cargo:rerun-if-env-changed={VARIABLE}");
@@ -83,8 +80,8 @@ fn built(target: &str) -> Result<PathBuf, String> {
             "this crate does not stand in its repository; set {VARIABLE} to the directory of {LIBRARY}"
         ));
     }
-    for part in SOURCES {
-        println!("cargo:rerun-if-changed={}", root.join(part).display());
+    for source in sources(&root) {
+        println!("cargo:rerun-if-changed={}", source.display());
     }
     tell("latchtwig: waiting for `host/build`, which proves the calls; the first time that takes minutes");
     let directory = PathBuf::from(env::var_os("OUT_DIR").unwrap_or_default());
@@ -103,6 +100,21 @@ fn built(target: &str) -> Result<PathBuf, String> {
             "`host/build` did not start ({error}); set {VARIABLE} to the directory of {LIBRARY}"
         )),
     }
+}
+
+/// What the library is made by and made of.
+fn sources(root: &Path) -> Vec<PathBuf> {
+    let mut found: Vec<PathBuf> = MAKERS.iter().map(|maker| root.join(maker)).collect();
+    for entry in fs::read_dir(root.join("crates"))
+        .into_iter()
+        .flatten()
+        .flatten()
+    {
+        let parts = PARTS.iter().map(|part| entry.path().join(part));
+        found.extend(parts.filter(|part| part.is_dir()));
+    }
+    found.sort();
+    found
 }
 
 /// Tells whoever waits. Cargo keeps what a script prints until it ends, so the line goes to the terminal itself, if there is one.

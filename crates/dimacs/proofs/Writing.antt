@@ -1,15 +1,14 @@
 -- The law of decimals: the digits of a number are those of its tenth, and then its last. Assumes nothing.
 use Prim.Native.Nat.{ℕ, zero, suc, ◌+◌, ◌/◌, ◌%◌, ◌≤◌, ◌<◌}
 use Prim.Native.Char.{code}
-use mathlib.Core.Bool.{Bool, true, false, cond}
 use mathlib.Core.List.{List, [], ◌∷◌, ◌++◌, append_assoc}
-use mathlib.Core.Path.{◌≡◌, refl, ap, sym, ◌∙◌}
+use mathlib.Core.Path.{◌≡◌, ap, sym, ◌∙◌}
 use native.Mathlib.Omega.{arith}
 use borrow.Author.Tests.{ltb-true, ltb-false, lt-ltb, le-ltb}
 use lib.Dec.{ltb}
-use Rattle.dimacs.specs.Loop.{Step, again, answer, loop}
+use Rattle.dimacs.specs.Loop.{again, answer, loop}
 use Rattle.dimacs.specs.Writing.{Digits, next_digit, digits}
-use Rattle.dimacs.proofs.Loops.{Falls, after, loop_after, enough}
+use Rattle.dimacs.proofs.Loops.{Falls, loop_after, enough}
 use Rattle.dimacs.proofs.Tests.{tested, chosen}
 
 abbrev before : ℕ → List ℕ → Digits

@@ -37,22 +37,22 @@ printed_clause f extra so = bytes "clause" ++ printed_lead f extra ++ printed_li
 
 -- A refusal's number, and its place after a word.
 abbrev pub printed_placed_refusal : Refusal → List ℕ → List ℕ
-printed_placed_refusal r placeWord = printed_label (bytes "refused") r.number ++ printed_label placeWord r.place
+printed_placed_refusal r place_word = printed_label (bytes "refused") r.number ++ printed_label place_word r.place
 
 -- A refusal's line and its column, each after a word.
 abbrev pub printed_spot : Refusal → List ℕ → List ℕ → List ℕ
-printed_spot r lineWord columnWord = printed_label lineWord r.line ++ printed_label columnWord r.column
+printed_spot r line_word column_word = printed_label line_word r.line ++ printed_label column_word r.column
 
 -- A refusal's number, and its place, k, its line and its column, each after a word.
 abbrev pub printed_refusal : Refusal → ℕ → List ℕ → List ℕ → List ℕ → List ℕ → List ℕ
-printed_refusal r k placeWord countWord lineWord columnWord =
-    printed_placed_refusal r placeWord ++ printed_label countWord k ++ printed_spot r lineWord columnWord
+printed_refusal r k place_word count_word line_word column_word =
+    printed_placed_refusal r place_word ++ printed_label count_word k ++ printed_spot r line_word column_word
 
 -- How a text opens; the four words are those of a refusal, whose k is 0.
 abbrev pub printed_opening : Opening → Format → List ℕ → List ℕ → List ℕ → List ℕ → List ℕ
-printed_opening (opening.Header h _) f placeWord countWord lineWord columnWord = printed_header f h
-printed_opening (NoHeader _) f placeWord countWord lineWord columnWord = bytes "header none"
-printed_opening (Refused r) f placeWord countWord lineWord columnWord = printed_refusal r 0 placeWord countWord lineWord columnWord
+printed_opening (opening.Header h _) f place_word count_word line_word column_word = printed_header f h
+printed_opening (NoHeader _) f place_word count_word line_word column_word = bytes "header none"
+printed_opening (Refused r) f place_word count_word line_word column_word = printed_refusal r 0 place_word count_word line_word column_word
 
 -- The number of a case.
 abbrev pub printed_case : ℕ → List ℕ

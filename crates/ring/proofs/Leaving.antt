@@ -1,11 +1,11 @@
 -- How a ticket leaves: how many stand before it, and those behind it move up. Assumes nothing.
 use Prim.Native.Nat.{ℕ, suc, ◌+◌, ◌-◌, ◌%◌, ◌≤◌, ◌<◌}
 use mathlib.Core.Bool.{true, false}
-use mathlib.Core.List.{List, ◌∷◌}
+use mathlib.Core.List.{◌∷◌}
 use mathlib.Core.Path.{◌≡◌, sym, ◌∙◌}
 use native.Mathlib.Omega.{arith}
 use borrow.Author.Tests.{eq-eqb, ne_eqb, lt-ltb, le-ltb}
-use lib.ListN.{length, get_or, set, length-set}
+use lib.ListN.{get_or, set}
 use Rattle.dimacs.specs.Names.{places}
 use Rattle.ring.specs.Ring.{ring, no_job, how_many, ahead, moved_up, closed_up, taken_out_at, taken_out}
 use Rattle.ring.specs.declared.Job.{Job}
@@ -66,7 +66,6 @@ pub record Moving (n : ℕ) (t : Tray) (from : ℕ) (u : Tray) (i : ℕ) : Type 
   pub jobs : moved_up t.jobs (t.head % places) from (n - (from + 1)) ≡ moved_up u.jobs (t.head % places) i (n - (i + 1))
   pub head : u.head ≡ t.head
   pub given : u.given ≡ t.given
-  pub all : length u.jobs ≡ places
 
 module _ {n : ℕ} {t : Tray} {from : ℕ} {u : Tray} {i : ℕ} (m : Moving n t from u i) where
   abbrev place : ℕ
@@ -79,7 +78,7 @@ module _ {n : ℕ} {t : Tray} {from : ℕ} {u : Tray} {i : ℕ} (m : Moving n t 
   unfolding moved_up
   moving_more l =
       let a : n - (i + 1) ≡ suc (n - (i + 1 + 1)) = omega arith in
-      record { below = l; jobs = m.jobs ∙ rw a; head = m.head; given = m.given; all = length-set u.jobs place next_job ∙ m.all }
+      record { below = l; jobs = m.jobs ∙ rw a; head = m.head; given = m.given }
 
   pub moving_done : n ≤ i + 1 → record { jobs = u.jobs; head = u.head; count = n - 1; given = u.given } ≡ closed_up t n from
   unfolding moved_up

@@ -1,11 +1,9 @@
 -- What serving a job comes to, on each way through its code; its promise has one answer. Assumes nothing.
 use Prim.Native.Nat.{ℕ, ◌+◌, ◌-◌, ◌≤◌}
-use mathlib.Core.Bool.{Bool, true, false}
+use mathlib.Core.Bool.{true, false}
 use mathlib.Core.List.{List}
 use mathlib.Core.Path.{◌≡◌, refl, ap, sym, ◌∙◌}
 use native.Mathlib.Omega.{arith}
-use borrow.Author.Tests.{le-leb, lt-leb, leb-true, leb-false}
-use lib.Dec.{leb}
 use lib.ListN.{length, take, drop}
 use lib.IntN.{ℤ}
 use Rattle.dimacs.specs.Lined.{lined}
@@ -13,7 +11,7 @@ use Rattle.dimacs.specs.Clauses as def
 use Rattle.dimacs.specs.declared.Format.{Format}
 use Rattle.dimacs.specs.declared.Mode.{Mode}
 use Rattle.dimacs.specs.declared.Opening.TheVariants as how
-use Rattle.dimacs.proofs.Tests.{tested, chosen}
+use Rattle.dimacs.proofs.Tests.{chosen}
 use Rattle.dimacs.proofs.Clauses.{AnswerFits}
 use Rattle.dimacs.proofs.Texts.{answer_fits}
 use Rattle.formula.specs.Cursors.{answer_from, opened_as, Steps}
@@ -37,17 +35,6 @@ said_k (opening (how.Header h at)) = refl
 said_k (opening (how.NoHeader at)) = refl
 said_k (opening (how.Refused r)) = refl
 said_k (answering a) = k_left a
-
--- The sum of start and length is tested without being made.
-pub within_test : (start size lent : ℕ) → start ≤ lent → leb size (lent - start) ≡ within start size lent
-within_test start size lent h =
-    tested (leb size (lent - start))
-    (λ e. let l = leb-true size (lent - start) e in e ∙ sym (le-leb (start + size) lent (omega arith)))
-    (λ e. let l = leb-false size (lent - start) e in e ∙ sym (lt-leb (start + size) lent (omega arith)))
-
--- A part within an area ends within it.
-pub ends_within : (start size lent : ℕ) {b : Bool} → b ≡ within start size lent → b ≡ true → start + size ≤ lent
-ends_within start size lent e t = leb-true (start + size) lent (sym e ∙ t)
 
 pub fresh_served : (s : List ℕ) (old : List ℤ) {x : Stage} {f : Format} {m : Mode} {o : Opened} {r : Served}
     → x ≡ stage.Fresh f m → o ≡ opened_as f m s → r ≡ opening_served o → Serves (serving s (length old) x) old old r

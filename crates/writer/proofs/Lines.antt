@@ -1,6 +1,6 @@
 -- Whole lines put, or refused. Assumes nothing.
 use Prim.Native.Nat.{ℕ, ◌+◌, ◌≤◌, ◌<◌}
-use mathlib.Core.Bool.{Bool, true, false, not, cond, ◌&&◌}
+use mathlib.Core.Bool.{true, false, cond, ◌&&◌}
 use mathlib.Core.List.{List, ◌++◌, append_assoc}
 use mathlib.Core.Path.{◌≡◌, refl, ap, sym, ◌∙◌}
 use native.Mathlib.Omega.{arith}
@@ -27,14 +27,6 @@ use Rattle.measures.proofs.Lines.{header_to_come}
 use Rattle.writer.specs.Answers.{Writes, written_of, bytes_written, number_in, place_in, spot_in, line_length}
 use Rattle.writer.specs.declared.Written.{Written}
 use Rattle.writer.specs.declared.Written.TheVariants.{Line, Refused}
-
-pub not_true : (b : Bool) → not b ≡ true → b ≡ false
-not_true true h = sym h
-not_true false h = refl
-
-pub not_false : (b : Bool) → not b ≡ false → b ≡ true
-not_false true h = refl
-not_false false h = sym h
 
 -- A clause's line in its pieces, as they are put.
 pub clause_put : (f : Format) (extra : ℕ) (so : List ℤ) → clause_line f extra so ≡ lead f extra ++ items so ++ bytes "0\n"

@@ -1,5 +1,5 @@
 -- `dimacs::spot_of` counts line and column byte by byte up to the place. The measure is the place.
-use Rattle.std.proofs.Common.{ℕ, ◌-◌, ◌≤◌, length}
+use Rattle.std.proofs.Common.{◌-◌, ◌≤◌, length}
 use Rattle.dimacs.proofs.Spots.{Counted}
 use Rattle.dimacs.proofs.+spot_of.Given as goal
 

@@ -1,0 +1,6 @@
+-- `lines::header_line` meets its contract: words, then the line end. Assumes nothing.
+use Rattle.pages.proofs.Pages.{lay_then}
+use Rattle.lines.proofs.header_line.Goals as goal
+
+pub returns : goal.returns
+returns c = lay_then c.header_words-past.ensures c.byte.ensures

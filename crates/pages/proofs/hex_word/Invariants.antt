@@ -1,0 +1,12 @@
+-- `pages::hex_word` meets its contract: each turn lays the next byte in hex. Assumes nothing.
+use Prim.Native.Nat.{◌-◌}
+use lib.ListN.{length}
+use Rattle.pages.specs.Printed.{printed_hex}
+use Rattle.pages.proofs.Pages.{LaidSome}
+use Rattle.pages.proofs.hex_word.Given as goal
+
+abbrev pub invariant-loop-i : goal.invariant-loop-i
+invariant-loop-i l = LaidSome printed_hex l.at l.w l.initial.page l.page l.past l.i
+
+abbrev pub decreases-loop-i : goal.decreases-loop-i
+decreases-loop-i l = length l.w - l.i

@@ -1,0 +1,17 @@
+-- `sat_solver_log::parse_log_as` meets its contract: what the log comes to stays the same over each line, and each is further on. Assumes nothing.
+use Rattle.dimacs.specs.Logs.{log}
+use Rattle.sat_solver_log.proofs.Runs.{log_so_far_start, log_so_far_on, log_so_far_answered}
+use Rattle.sat_solver_log.proofs.parse_log_as.Goals as goal
+
+pub loop-next-init : goal.loop-next-init
+loop-next-init c = log_so_far_start _ _ _
+
+pub loop-next-smaller : goal.loop-next-smaller
+loop-next-smaller c = let g = c.in-Again.is in (log_so_far_on c.loop-next.invariant (rw g at c.any_line.ensures)).1
+
+pub loop-next-preserved : goal.loop-next-preserved
+loop-next-preserved c = let g = c.in-Again.is in (log_so_far_on c.loop-next.invariant (rw g at c.any_line.ensures)).0
+
+pub returns-in-Answer : goal.returns-in-Answer
+unfolding log
+returns-in-Answer c = let g = c.in-Answer.is in log_so_far_answered c.loop-next.invariant (rw g at c.any_line.ensures)

@@ -1,0 +1,11 @@
+-- `writer::put_third` meets its contract: the format has a third count, or it does not. Assumes nothing.
+use mathlib.Core.Path.{sym, ◌∙◌}
+use Rattle.writer.proofs.Pieces.{put_nothing_if_room}
+use Rattle.writer.proofs.put_third.Goals as goal
+
+pub returns-then-has_third : goal.returns-then-has_third
+returns-then-has_third c = let has = sym c.has_third.ensures ∙ c.if-has_third.true in
+    rw has c.put_digits_after.ensures
+
+pub returns : goal.returns
+returns c = let none = sym c.has_third.ensures ∙ c.if-has_third.false in rw none (put_nothing_if_room _ _)
