@@ -1,12 +1,8 @@
 /* A writer writes 2,000 literals of FEW to MOST digits and both signs in clauses of 100, on a processor that can neither divide nor multiply: undivided WRITER FEW MOST, with WRITER one of b (as it was), a (as it is) and
    n (none). Its status is a sum over the bytes written. It stands alone, with no C library, so that an emulator's count of instructions is the writer's and little else. */
 typedef unsigned long size_t;
-struct lent {
-    const void *at;
-    size_t length;
-};
-unsigned long before_clause(unsigned weighted, unsigned long extra, const struct lent *lits, const struct lent *out);
-unsigned long now_clause(unsigned weighted, unsigned long extra, const struct lent *lits, const struct lent *out);
+unsigned long before_clause(unsigned weighted, unsigned long extra, const int *lits, size_t count, unsigned char *out, size_t room);
+unsigned long now_clause(unsigned weighted, unsigned long extra, const int *lits, size_t count, unsigned char *out, size_t room);
 
 /* What compilers call where there is no divide instruction, step by step as libgcc has it for such processors. */
 unsigned long __udivdi3(unsigned long left, unsigned long part) {
@@ -64,12 +60,10 @@ __attribute__((used)) void begin(long *stack) {
         lits[j] = lits[i];
         lits[i] = other;
     }
-    struct lent to = {out, sizeof out};
     for (int i = 0; i < LITERALS; i += CLAUSE) {
-        struct lent clause = {lits + i, CLAUSE};
         unsigned long long_line = 0;
-        if (writer == 'b') long_line = before_clause(0, 0, &clause, &to);
-        if (writer == 'a') long_line = now_clause(0, 0, &clause, &to);
+        if (writer == 'b') long_line = before_clause(0, 0, lits + i, CLAUSE, out, sizeof out);
+        if (writer == 'a') long_line = now_clause(0, 0, lits + i, CLAUSE, out, sizeof out);
         if (writer != 'n') sum += out[long_line >> 1] + out[long_line - 4] + (unsigned)long_line;
     }
     leave(sum & 127);

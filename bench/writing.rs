@@ -3,17 +3,14 @@
 //! The Rust writer does the same work: it refuses a literal that cannot be written, measures the line, as one is written whole or not at all, and writes each number from its last digit by `%` and `/`.
 //! Each line of the output is a text's name, its bytes, and nanoseconds of each writer: Rust, as it was, as it is.
 
-#[repr(C)]
-struct Lent(*const u8, usize);
-
-type Clause = unsafe extern "C" fn(weighted: u32, extra: u64, lits: *const Lent, out: *const Lent) -> u64;
-type Header = unsafe extern "C" fn(variables: u64, clauses: u64, third: u64, out: *const Lent) -> u64;
+type Clause = unsafe extern "C" fn(weighted: u32, extra: u64, lits: *const i32, count: usize, out: *mut u8, room: usize) -> u64;
+type Header = unsafe extern "C" fn(variables: u64, clauses: u64, third: u64, out: *mut u8, room: usize) -> u64;
 
 extern "C" {
-    fn before_clause(weighted: u32, extra: u64, lits: *const Lent, out: *const Lent) -> u64;
-    fn before_header(variables: u64, clauses: u64, third: u64, out: *const Lent) -> u64;
-    fn now_clause(weighted: u32, extra: u64, lits: *const Lent, out: *const Lent) -> u64;
-    fn now_header(variables: u64, clauses: u64, third: u64, out: *const Lent) -> u64;
+    fn before_clause(weighted: u32, extra: u64, lits: *const i32, count: usize, out: *mut u8, room: usize) -> u64;
+    fn before_header(variables: u64, clauses: u64, third: u64, out: *mut u8, room: usize) -> u64;
+    fn now_clause(weighted: u32, extra: u64, lits: *const i32, count: usize, out: *mut u8, room: usize) -> u64;
+    fn now_header(variables: u64, clauses: u64, third: u64, out: *mut u8, room: usize) -> u64;
     fn clock_gettime(clock: i32, time: *mut [i64; 2]) -> i32;
 }
 
@@ -107,8 +104,7 @@ impl Line for ClauseOf<'_> {
 
     fn by_other(&self, now: bool, out: &mut [u8]) -> usize {
         let write: Clause = if now { now_clause } else { before_clause };
-        let lits = Lent(self.lits.as_ptr().cast(), self.lits.len());
-        unsafe { write(self.weight.is_some() as u32, self.weight.unwrap_or(0), &lits, &Lent(out.as_mut_ptr(), out.len())) as usize }
+        unsafe { write(self.weight.is_some() as u32, self.weight.unwrap_or(0), self.lits.as_ptr(), self.lits.len(), out.as_mut_ptr(), out.len()) as usize }
     }
 }
 
@@ -119,7 +115,7 @@ impl Line for [u64; 3] {
 
     fn by_other(&self, now: bool, out: &mut [u8]) -> usize {
         let write: Header = if now { now_header } else { before_header };
-        unsafe { write(self[0], self[1], self[2], &Lent(out.as_mut_ptr(), out.len())) as usize }
+        unsafe { write(self[0], self[1], self[2], out.as_mut_ptr(), out.len()) as usize }
     }
 }
 

@@ -4,16 +4,16 @@ use Prim.Native.Nat.{ℕ, ◌-◌, ◌≤◌, ◌<◌}
 use mathlib.Core.List.{List, [], ◌∷◌, ◌++◌}
 use mathlib.Core.Path.{◌≡◌, refl, ap, sym, ◌∙◌, subst}
 use native.Mathlib.Omega.{arith}
-use lib.ListN.{length, take, drop}
+use lib.ListN.{length, take}
 use lib.IntN.{ℤ}
 use Rattle.dimacs.specs.Names.{Reason, refusal}
 use Rattle.dimacs.specs.Tokens.{linebreaks}
 use Rattle.dimacs.specs.Rows as def
 use Rattle.dimacs.specs.Rows.{reads, row, read_by}
 use Rattle.dimacs.specs.Buffers.{laid}
-use Rattle.dimacs.specs.Clauses.{nothing, closed, stopped, literals_from, literals}
+use Rattle.dimacs.specs.Clauses.{literals_from, literals}
 use Rattle.dimacs.specs.declared.Refusal.{Refusal}
-use Rattle.dimacs.proofs.Spans.{Spans, linebreaks_spans}
+use Rattle.dimacs.proofs.Spans.{linebreaks_spans}
 use Rattle.dimacs.proofs.Rows.{RowSpans, row_spans, Grown, row_grows}
 use Rattle.dimacs.proofs.Literals.{closed_by, stopped_by, nothing_there, none_after_lines, none_on_line, breaks}
 use Rattle.dimacs.proofs.Buffer.{Kept, kept_unchanged, kept_count, kept_beyond, kept_adds, laid_first}
@@ -36,7 +36,7 @@ module _ {s : List ℕ} {limit at : ℕ} {old lits : List ℤ} {from held : ℕ}
   the_row : def.Row
   the_row = row s limit (length old) (reads from (take held lits))
 
-  -- A row kept-adds literals to those before it, as many as the buffer can hold.
+  -- A row adds literals to those before it, as many as the buffer can hold.
   grown : (d : def.Row) → the_row ≡ d → (held ≤ length (read_by d)) × (length (read_by d) ≤ length lits)
   unfolding the_row
   grown d e =

@@ -1,12 +1,13 @@
--- How long a number is in decimal. Assumes nothing.
-use Prim.Native.Nat.{ℕ, zero, suc, ◌+◌, ◌/◌, ◌%◌, ◌≤◌, ◌<◌}
+-- How long a number is in decimal, and its digits stored from the last to the first. Assumes nothing.
+use Prim.Native.Nat.{ℕ, zero, suc, ◌+◌, ◌-◌, ◌/◌, ◌%◌, ◌≤◌, ◌<◌}
 use Prim.Native.Char.{code}
-use mathlib.Core.List.{[], ◌∷◌}
-use mathlib.Core.Path.{◌≡◌, ap, ◌∙◌}
+use mathlib.Core.List.{List, [], ◌∷◌, ◌++◌}
+use mathlib.Core.Path.{◌≡◌, ap, sym, ◌∙◌}
 use native.Mathlib.Omega.{arith}
 use borrow.Author.Tests.{ltb-true, ltb-false}
 use lib.Dec.{ltb}
-use lib.ListN.{length, length-append}
+use lib.ListN.{length, set, length-append, length-set}
+use lib.Seq.{sets, set_comm}
 use Rattle.dimacs.specs.Writing.{digits}
 use Rattle.dimacs.proofs.Writing.{digits_one, digits_more}
 use Rattle.dimacs.proofs.Tests.{tested}
@@ -52,3 +53,34 @@ digits_above zero n h = omega (arith, digits_bounded n)
 digits_above (suc k) n h =
     let some : 10 ≤ n = omega (arith, tens_some k) in
     omega (arith, more_long n some, digits_above k (n / 10) (omega arith))
+
+-- The last of a run of stores may come first.
+sets_last : {A : Type 0} (vs l : List A) (at : ℕ) (d : A) → sets l at (vs ++ (d ∷ [])) ≡ sets (set l (at + length vs) d) at vs
+sets_last [] l at d = ap (λ k. set l k d) (omega arith)
+sets_last (v ∷ vs) l at d =
+    sets_last vs (set l at v) (suc at) d
+    ∙ ap (λ x. sets x (suc at) vs) (set_comm l at (suc at + length vs) v d (λ e. omega (arith, e)) ∙ ap (λ k. set (set l k d) at v) (omega arith))
+
+-- Digits stand behind place i, and what is left is to be stored up to there.
+pub record Behind (at n : ℕ) (old out : List ℕ) (left i : ℕ) : Type 0 where
+  pub place : i + 1 ≡ at + length (digits left)
+  pub fewer : length (digits left) ≤ length (digits n)
+  pub same : sets out at (digits left) ≡ sets old at (digits n)
+  pub long : length out ≡ length old
+
+pub behind_more : {at n : ℕ} {old out : List ℕ} {left i : ℕ} → Behind at n old out left i → 10 ≤ left
+    → Behind at n old (set out i (code "0" + left % 10)) (left / 10) (i - 1)
+behind_more {at} {n} {old} {out} {left} {i} h l =
+    record {
+      place = omega (arith, h.place, more_long left l, digits_bounded (left / 10));
+      fewer = omega (arith, h.fewer, more_long left l);
+      same =
+          let e : i ≡ at + length (digits (left / 10)) = omega (arith, h.place, more_long left l) in
+          rw e (sym (sets_last (digits (left / 10)) out at (code "0" + left % 10)) ∙ ap (sets out at) (sym (digits_more left l)) ∙ h.same);
+      long = length-set out i (code "0" + left % 10) ∙ h.long;
+    }
+
+pub behind_all : {at n : ℕ} {old out : List ℕ} {left i : ℕ} → Behind at n old out left i → left < 10 → set out i (code "0" + left) ≡ sets old at (digits n)
+behind_all {at} {n} {old} {out} {left} {i} h l =
+    let k : i ≡ at = omega (arith, h.place, one_long left l) in
+    rw k (ap (sets out at) (sym (digits_one left l)) ∙ h.same)

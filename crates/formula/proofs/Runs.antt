@@ -5,7 +5,6 @@ use mathlib.Core.Path.{◌≡◌, refl, ap, sym, ◌∙◌, subst}
 use native.Mathlib.Omega.{arith}
 use lib.ListN.{length}
 use lib.IntN.{ℤ}
-use Rattle.dimacs.specs.Loop.{last}
 use Rattle.dimacs.specs.Names.{own_room}
 use Rattle.dimacs.specs.Lined.{lined}
 use Rattle.dimacs.specs.Header.{opening_of, unlimited, limits_of}

@@ -1,5 +1,4 @@
 -- `clause::clause_lits` meets its contract: each way out, and each way on, by what the row leads to. Assumes nothing.
-use Prim.Native.Nat.{◌-◌}
 use Rattle.clause.proofs.RowByRow.{so_far_start, after_row}
 use Rattle.clause.proofs.clause_lits.Goals as goal
 

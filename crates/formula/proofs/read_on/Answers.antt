@@ -1,5 +1,5 @@
 -- `formula::read_on` meets its contract: what the text comes to stays the same over each clause, and fewer are to come. Assumes nothing.
-use mathlib.Core.Path.{◌≡◌, sym, ◌∙◌}
+use mathlib.Core.Path.{sym, ◌∙◌}
 use Rattle.formula.proofs.Runs.{steps_lead}
 use Rattle.formula.proofs.read_on.Goals as goal
 

@@ -1,5 +1,5 @@
 -- `formula::read_on` meets its contract: what the text comes to stays the same over each clause, and fewer are to come. Assumes nothing.
-use mathlib.Core.Path.{◌≡◌, ◌∙◌}
+use mathlib.Core.Path.{◌≡◌}
 use lib.ListN.{length}
 use Rattle.dimacs.specs.Names.{own_room}
 use Rattle.dimacs.proofs.Clauses.{to_come}

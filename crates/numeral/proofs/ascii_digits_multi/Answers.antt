@@ -1,5 +1,5 @@
 -- `numeral::ascii_digits_multi` meets its contract: the digits up to i write v. Assumes nothing.
-use Prim.Native.Nat.{◌+◌, ◌-◌, ◌*◌, ◌≤◌}
+use Prim.Native.Nat.{◌+◌, ◌*◌, ◌≤◌}
 use mathlib.Core.Path.{sym, ◌∙◌}
 use Rattle.dimacs.specs.Names.{largest}
 use Rattle.numeral.proofs.Runs.{read_none, digit_more, digit_above, digit_stop, digits_end, digits_value}

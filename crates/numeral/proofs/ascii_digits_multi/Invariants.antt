@@ -1,6 +1,5 @@
 -- `numeral::ascii_digits_multi` meets its contract: the digits up to i write v. Assumes nothing.
-use Prim.Native.Nat.{◌+◌, ◌-◌, ◌*◌, ◌≤◌}
-use mathlib.Core.Path.{◌∙◌}
+use Prim.Native.Nat.{◌-◌, ◌≤◌}
 use lib.ListN.{length}
 use Rattle.dimacs.specs.Names.{largest}
 use Rattle.numeral.specs.Parts.{Read}

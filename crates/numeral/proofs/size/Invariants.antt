@@ -1,6 +1,5 @@
 -- `numeral::size` meets its contract: the digits up to i write v, which is below ten to the power of their count. Assumes nothing.
-use Prim.Native.Nat.{◌+◌, ◌-◌, ◌^◌, ◌≤◌, ◌<◌}
-use mathlib.Core.Path.{◌≡◌, ◌∙◌}
+use Prim.Native.Nat.{◌-◌, ◌^◌, ◌≤◌, ◌<◌}
 use Rattle.numeral.specs.Parts.{Read}
 use Rattle.numeral.proofs.size.Given as goal
 

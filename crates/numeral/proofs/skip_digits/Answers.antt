@@ -1,6 +1,5 @@
 -- `numeral::skip_digits` meets its contract: what is past the digits from i is what is past them from the start. Assumes nothing.
-use Prim.Native.Nat.{◌-◌}
-use mathlib.Core.Path.{◌≡◌, sym, ◌∙◌}
+use mathlib.Core.Path.{sym, ◌∙◌}
 use Rattle.dimacs.proofs.Bytes.{is_digit_lem, below_digit, above_digit}
 use Rattle.dimacs.proofs.Past.{past_more, past_stop, past_end}
 use Rattle.numeral.proofs.skip_digits.Goals as goal

@@ -1,6 +1,6 @@
 -- `numeral::skip_digits` meets its contract: what is past the digits from i is what is past them from the start. Assumes nothing.
 use Prim.Native.Nat.{◌-◌}
-use mathlib.Core.Path.{◌≡◌, ◌∙◌}
+use mathlib.Core.Path.{◌≡◌}
 use lib.ListN.{length}
 use Rattle.dimacs.specs.Bytes.{is_digit}
 use Rattle.dimacs.specs.Tokens.{past}

@@ -1,6 +1,5 @@
 -- `rows::ints` meets its contract: each way out, and each way on, by its law. Assumes nothing.
 use Prim.Native.Nat.{◌-◌}
-use mathlib.Core.Path.{◌≡◌, ◌∙◌}
 use lib.ListN.{length}
 use Rattle.dimacs.specs.Lined.{lined}
 use Rattle.rows.proofs.Buffer.{RowSoFar}

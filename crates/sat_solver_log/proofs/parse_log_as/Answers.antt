@@ -1,5 +1,4 @@
 -- `sat_solver_log::parse_log_as` meets its contract: what the log comes to stays the same over each line, and each is further on. Assumes nothing.
-use Prim.Native.Nat.{◌-◌}
 use Rattle.dimacs.specs.Logs.{log}
 use Rattle.sat_solver_log.proofs.Runs.{log_so_far_start, log_so_far_on, log_so_far_answered}
 use Rattle.sat_solver_log.proofs.parse_log_as.Goals as goal

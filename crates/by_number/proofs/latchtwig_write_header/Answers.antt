@@ -1,0 +1,6 @@
+-- `by_number::latchtwig_write_header` meets its contract, by what the writer promises. Assumes nothing.
+use Rattle.by_number.proofs.Left.{leaves}
+use Rattle.by_number.proofs.latchtwig_write_header.Goals as goal
+
+pub returns : goal.returns
+returns c = leaves _ c.header_line-written.ensures c.written_words.ensures c.written_kind.ensures

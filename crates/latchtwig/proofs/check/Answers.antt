@@ -1,0 +1,7 @@
+-- `latchtwig::check` meets its contract: numbers above all bytes name nothing, as the largest byte does. Assumes nothing.
+use mathlib.Core.Path.{◌∙◌}
+use Rattle.latchtwig.proofs.Outcomes.{outcome_narrowed}
+use Rattle.latchtwig.proofs.check.Goals as goal
+
+pub returns : goal.returns
+returns c = c.read.ensures ∙ outcome_narrowed _ _ _ c.narrowed.ensures c.narrowed-2.ensures

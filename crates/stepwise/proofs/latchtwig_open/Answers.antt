@@ -1,0 +1,6 @@
+-- `stepwise::latchtwig_open` meets its contract, by what opening the text promises. Assumes nothing.
+use Rattle.stepwise.proofs.Parts.{opens}
+use Rattle.stepwise.proofs.latchtwig_open.Goals as goal
+
+pub returns : goal.returns
+returns c = let m = c.narrowed-2.ensures in let f = c.narrowed.ensures in opens _ _ _ _ f m c.open-opened.ensures c.cursor_words.ensures c.opening_words.ensures c.opening_kind.ensures
