@@ -39,7 +39,7 @@ use Rattle.tray.proofs.Tells.{number_alone}
 use Rattle.fairness.specs.Promises.{Lent, Calls, did, BufferKept, Refusals, answered, left, then_put, since, Holds, said_alone, Account, Tickets, EnoughPlaces, Bound, Content, Demand, DoneWith, Silence, Withdrawn}
 use Rattle.fairness.proofs.Rings.{length-ring, length_moved}
 use Rattle.fairness.proofs.Desk.{view, desk, call_is}
-use Rattle.fairness.proofs.Reader.{turns_left_of, falls, PartOf, lasts, Begins, entry_begins, lawful, solo, alike, whole}
+use Rattle.fairness.proofs.Reader.{turns_left_of, falls, PartOf, lasts, entry_begins, lawful, solo, alike, whole}
 
 -- Whatever keeps the contract of `turn` is the turn of which the promises speak.
 pub turn_did : {t : Tray} {area : List ℕ} {old new : List ℤ} {r : TurnDone} → Turns t area old new r
