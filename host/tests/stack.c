@@ -75,7 +75,7 @@ static int tell(void) {
         size_t bytes = used[call] - used[NOTHING];
         int whole = call <= CHECK;
         printf(" %s %zu%s", names[call], bytes, call + 1 < CALLS ? "," : " bytes\n");
-        if (whole ? bytes < 4608 || bytes > 5632 : bytes >= 1024) wrong++;
+        if (whole ? bytes < 4096 || bytes > 5632 : bytes >= 1024) wrong++;
     }
     if (wrong) printf("stack: %d of them otherwise than latchtwig.h says\n", wrong);
     return wrong != 0;
