@@ -36,7 +36,7 @@ module _ {s : List ℕ} {limit at : ℕ} {old lits : List ℤ} {from held : ℕ}
   the_row : def.Row
   the_row = row s limit (length old) (reads from (take held lits))
 
-  -- A row kept-adds literals to those before it, as many as the buffer can hold.
+  -- A row adds literals to those before it, as many as the buffer can hold.
   grown : (d : def.Row) → the_row ≡ d → (held ≤ length (read_by d)) × (length (read_by d) ≤ length lits)
   unfolding the_row
   grown d e =

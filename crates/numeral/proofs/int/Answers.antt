@@ -9,29 +9,29 @@ use Rattle.numeral.proofs.int.Goals as goal
 use Rattle.numeral.proofs.int.Goals.{Else-v-floor, In-Value}
 
 -- What the number past the minus tells.
-told-size : (c : In-Value)
+told_size : (c : In-Value)
     → UintTold c.args.text.now ceiling c.past_minus-from.result (uint.Value c.in-Value.n c.in-Value.next)
-told-size c = uint_told _ _ _ c.in-Value.is c.size.ensures
+told_size c = uint_told _ _ _ c.in-Value.is c.size.ensures
 
 -- Not below the floor, the size is within the limit.
-within-limit : (c : Else-v-floor) → c.in-Value.n ≤ min c.args.limit ceiling
-within-limit c = above_floor _ (uint_told _ _ _ c.in-Value.is c.size.ensures).1 (min c.args.limit ceiling) (omega arith) _ c.floor_of-floor.ensures c.if-v-floor.false
+within_limit : (c : Else-v-floor) → c.in-Value.n ≤ min c.args.limit ceiling
+within_limit c = above_floor _ (uint_told _ _ _ c.in-Value.is c.size.ensures).1 (min c.args.limit ceiling) (omega arith) _ c.floor_of-floor.ensures c.if-v-floor.false
 
 pub returns-then-n-eq0 : goal.returns-then-n-eq0
-returns-then-n-eq0 c = int_zero _ _ _ _ c.past_minus-from.ensures (told-size (goal.at.returns-then-n-eq0 c).In-Value) c.if-n-eq0.true
+returns-then-n-eq0 c = int_zero _ _ _ _ c.past_minus-from.ensures (told_size (goal.at.returns-then-n-eq0 c).In-Value) c.if-n-eq0.true
 
 pub overflow_cast-v : goal.overflow_cast-v
-overflow_cast-v c = sfits_pos _ (told-size (goal.at.overflow_cast-v c).In-Value).1
+overflow_cast-v c = sfits_pos _ (told_size (goal.at.overflow_cast-v c).In-Value).1
 
 pub overflow_sub-v : goal.overflow_sub-v
-overflow_sub-v c = negated_fits _ (told-size (goal.at.overflow_sub-v c).In-Value).1
+overflow_sub-v c = negated_fits _ (told_size (goal.at.overflow_sub-v c).In-Value).1
 
 pub returns-then-v-floor : goal.returns-then-v-floor
-returns-then-v-floor c = int_beyond _ _ _ _ c.past_minus-from.ensures (told-size (goal.at.returns-then-v-floor c).In-Value) c.if-n-eq0.false
-    (below_floor _ (told-size (goal.at.returns-then-v-floor c).In-Value).1 (min c.args.limit ceiling) (omega arith) _ c.floor_of-floor.ensures c.if-v-floor.true)
+returns-then-v-floor c = int_beyond _ _ _ _ c.past_minus-from.ensures (told_size (goal.at.returns-then-v-floor c).In-Value) c.if-n-eq0.false
+    (below_floor _ (told_size (goal.at.returns-then-v-floor c).In-Value).1 (min c.args.limit ceiling) (omega arith) _ c.floor_of-floor.ensures c.if-v-floor.true)
 
 pub overflow_sub-w : goal.overflow_sub-w
-overflow_sub-w c = twice_fits _ (told-size (goal.at.overflow_sub-w c).In-Value).1
+overflow_sub-w c = twice_fits _ (told_size (goal.at.overflow_sub-w c).In-Value).1
 
 pub returns-in-Missing : goal.returns-in-Missing
 returns-in-Missing c = int_missing _ _ _ _ c.past_minus-from.ensures (uint_told _ _ _ c.in-Missing.is c.size.ensures)
@@ -40,7 +40,7 @@ pub returns-in-TooBig : goal.returns-in-TooBig
 returns-in-TooBig c = int_too_big _ _ _ _ c.past_minus-from.ensures (uint_told _ _ _ c.in-TooBig.is c.size.ensures)
 
 pub returns-then-from-at : goal.returns-then-from-at
-returns-then-from-at c = int_positive _ _ _ _ c.past_minus-from.ensures (told-size (goal.at.returns-then-from-at c).In-Value) c.if-n-eq0.false (within-limit (goal.at.returns-then-from-at c).Else-v-floor) c.if-from-at.true _ (twice_back _ (told-size (goal.at.returns-then-from-at c).In-Value).1)
+returns-then-from-at c = int_positive _ _ _ _ c.past_minus-from.ensures (told_size (goal.at.returns-then-from-at c).In-Value) c.if-n-eq0.false (within_limit (goal.at.returns-then-from-at c).Else-v-floor) c.if-from-at.true _ (twice_back _ (told_size (goal.at.returns-then-from-at c).In-Value).1)
 
 pub returns-else-from-at : goal.returns-else-from-at
-returns-else-from-at c = int_negative _ _ _ _ c.past_minus-from.ensures (told-size (goal.at.returns-else-from-at c).In-Value) c.if-n-eq0.false (within-limit (goal.at.returns-else-from-at c).Else-v-floor) c.if-from-at.false _ (negated_back _ (told-size (goal.at.returns-else-from-at c).In-Value).1)
+returns-else-from-at c = int_negative _ _ _ _ c.past_minus-from.ensures (told_size (goal.at.returns-else-from-at c).In-Value) c.if-n-eq0.false (within_limit (goal.at.returns-else-from-at c).Else-v-floor) c.if-from-at.false _ (negated_back _ (told_size (goal.at.returns-else-from-at c).In-Value).1)

@@ -34,8 +34,8 @@ pub overflow_cast-v : goal.overflow_cast-v
 overflow_cast-v c = omega (arith, few (goal.at.overflow_cast-v c).At-loop-i)
 
 pub uint_on-requires : goal.uint_on-requires
-uint_on-requires c = let at-stop : c.loop-i.i ≡ c.args.at + 8 = omega arith in
-    rw at-stop at c.loop-i.invariant.0
+uint_on-requires c = let at_stop : c.loop-i.i ≡ c.args.at + 8 = omega arith in
+    rw at_stop at c.loop-i.invariant.0
 
 pub returns : goal.returns
 returns c = c.uint_on.ensures

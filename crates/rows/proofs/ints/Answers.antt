@@ -12,8 +12,8 @@ use Rattle.rows.proofs.ints.Goals as goal
 use Rattle.rows.proofs.ints.Goals.{Else-lits-count, else-lits-held, then-lits-held}
 
 -- The literal as the machine reads it back.
-literal-back : (c : Else-lits-count) → to_z w32 (of_z w32 c.in-Literal.v) ≡ c.in-Literal.v
-literal-back c = search rules
+literal_back : (c : Else-lits-count) → to_z w32 (of_z w32 c.in-Literal.v) ≡ c.in-Literal.v
+literal_back c = search rules
 
 pub loop-next-init : goal.loop-next-init
 loop-next-init c = (elim c.if-lits-held.branch [ then-lits-held w ↦ row_so_far_full _ _ (omega arith) (omega arith) | else-lits-held w ↦ row_so_far_start _ _ (omega arith) (omega arith) ])
@@ -34,5 +34,5 @@ pub loop-next-smaller : goal.loop-next-smaller
 loop-next-smaller c = takes_falls _ _ _ (int_lined _ _ _ _ ∙ sym c.int.ensures ∙ c.in-Literal.is)
 
 pub loop-next-preserved : goal.loop-next-preserved
-loop-next-preserved c = let inv = c.loop-next.invariant in let left = c.if-lits-count.false in let z = literal-back (goal.at.loop-next-preserved c).Else-lits-count in
+loop-next-preserved c = let inv = c.loop-next.invariant in let left = c.if-lits-count.false in let z = literal_back (goal.at.loop-next-preserved c).Else-lits-count in
     rw z (row_so_far_puts inv _ _ left (row_takes _ _ _ _ _ (int_lined _ _ _ _ ∙ sym c.int.ensures ∙ c.in-Literal.is) (kept_room inv.kept left)))
