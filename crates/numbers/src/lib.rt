@@ -1,17 +1,26 @@
-// The numbers of a host as bytes, which name formats and modes.
+// The numbers of a host as bytes, which name formats and modes, and refusals as its words.
 #![tactic(auto)]
 
 ghost use Rattle.std.specs.Prelude.{◌≡◌, min};
+ghost use Rattle.numbers.specs.Words.{refusal_words};
 
-// The largest byte. It names no format and no mode.
-const LARGEST_BYTE: u64 = 255;
+use dimacs::Refusal;
 
-// A number as a byte. One above all bytes goes to the largest, so that it still names nothing.
+// A number as a byte. One above all bytes goes to the largest, which names no format and no mode, so that it still names nothing.
 pub fn narrowed(n: u64) -> u8
     ensures { result ≡ min n 255 }
 {
-    if n < LARGEST_BYTE {
-        return n as u8;
-    }
-    LARGEST_BYTE as u8
+    u8::try_from(n).unwrap_or(u8::MAX)
+}
+
+// The words of a refusal: its number, place, line and column.
+pub fn refusal_words(refusal: Refusal) -> [u64; 4]
+    ensures { result ≡ refusal_words refusal }
+{
+    [
+        refusal.number as u64,
+        refusal.place as u64,
+        refusal.line as u64,
+        refusal.column as u64,
+    ]
 }

@@ -1,0 +1,2 @@
+-- Refusals as words.
+pub mod Words
