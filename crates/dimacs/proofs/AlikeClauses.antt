@@ -1,4 +1,6 @@
 -- Two texts with the same first bytes have the same clauses among them. Assumes nothing.
+use Rattle.std.specs.Prelude.{Option, None, Some, Result, Ok, Err}
+use Rattle.dimacs.specs.declared.Refusal.{Refusal}
 use Prim.Native.Nat.{ℕ, ◌+◌, ◌≤◌, ◌<◌}
 use mathlib.Core.Bool.{Bool, true, false, cond}
 use mathlib.Core.List.{List, []}
@@ -9,7 +11,8 @@ use lib.Dec.{leb, eqb}
 use lib.ListN.{length}
 use lib.IntN.{ℤ}
 use Rattle.dimacs.specs.Bytes.{bytes, is_not_stop}
-use Rattle.dimacs.specs.Names.{Reason, number_of, numbered, refusal, largest, hard}
+use Rattle.dimacs.specs.Names.{number_of, numbered, refusal, largest, hard}
+use Rattle.dimacs.specs.declared.Reason.{Reason}
 use Rattle.dimacs.specs.Tokens.{unmoved, blanks, word, lines, linebreaks, uint_at, braced_uint_at, end_of_line, line_ends}
 use Rattle.dimacs.specs.Rows.{reads}
 use Rattle.dimacs.specs.Clauses.{Literals, nothing, closed, stopped, literals, clause, refused, Answered, says, instead, absent, is_zero, start_by, soft_by, start_in2022, start_at, closing, finish, clause_by, clause_at}
@@ -17,13 +20,8 @@ use Rattle.dimacs.specs.Texts.{next_clause, answer_by, answer_at}
 use Rattle.dimacs.specs.Seen.{word_seen, answer_seen}
 use Rattle.dimacs.specs.declared.Absence.{Absence}
 use Rattle.dimacs.specs.declared.Absence.TheVariants.{MayEnd, NoClause, NoLiterals}
-use Rattle.dimacs.specs.declared.EndOfLine.{EndOfLine}
-use Rattle.dimacs.specs.declared.EndOfLine.TheVariants as end
-use Rattle.dimacs.specs.declared.Final.{Final}
-use Rattle.dimacs.specs.declared.Final.TheVariants as final
 use Rattle.dimacs.specs.declared.Format.{Format}
 use Rattle.dimacs.specs.declared.Format.TheVariants.{Plain, Weighted, Grouped, Weighted2022}
-use Rattle.dimacs.specs.declared.Instead.TheVariants.{Refused}
 use Rattle.dimacs.specs.declared.Limits.{Limits}
 use Rattle.dimacs.specs.declared.Progress.{Progress}
 use Rattle.dimacs.specs.declared.Uint.{Uint}
@@ -36,8 +34,8 @@ use Rattle.dimacs.proofs.AlikeWords.{word_stands_same, word_same, EndSeen, line_
 use Rattle.dimacs.proofs.AlikeRows.{LiteralsFollow, literals_same}
 
 module _ {n : ℕ} {s t : List ℕ} (a : Alike n s t) where
-  refused_same : (number at : ℕ) → word_seen s at ≤ n → instead (Refused (numbered t number at)) ≡ instead (Refused (numbered s number at))
-  refused_same number at h = ap (λ r. instead (Refused r)) (numbered_same a number at h)
+  refused_same : (number at : ℕ) → word_seen s at ≤ n → instead (Err (numbered t number at)) ≡ instead (Err (numbered s number at))
+  refused_same number at h = ap (λ r. instead (Err r)) (numbered_same a number at h)
 
   absent_same : (absence : Absence) (at : ℕ) → answer_seen s (instead (absent s absence at)) ≤ n
       → (word_seen s at ≤ n) × (instead (absent t absence at) ≡ instead (absent s absence at))
@@ -59,9 +57,9 @@ module _ {n : ℕ} {s t : List ℕ} (a : Alike n s t) where
       let q = end_same a at h l in
       (q.0, rw q.1 (line_ends_same a _ at (says (clause extra so)) (λ r. says (refused r so) at) (end_of_line s at) l))
     where
-      go : (x : EndOfLine) → answer_seen s (line_ends x (says (clause extra so)) (says (refused (refusal s Reason.line_end_expected at) so) at)) ≤ n → EndSeen n s at x
-      go end.Missing k = k
-      go (end.Past e) k = k
+      go : (x : Option ℕ) → answer_seen s (line_ends x (says (clause extra so)) (says (refused (refusal s Reason.LineEndExpected at) so) at)) ≤ n → EndSeen n s at x
+      go None k = k
+      go (Some e) k = k
 
   module _ (limits : Limits) (room : ℕ) where
     abbrev from : List ℕ → ℕ → ℕ → Absence → Answered
@@ -110,7 +108,7 @@ module _ {n : ℕ} {s t : List ℕ} (a : Alike n s t) where
     soft_same absence at k =
         let u = uint_at s largest at in
         let u' = uint_at t largest at in
-        let big = number_of Reason.weight_too_big in
+        let big = number_of Reason.WeightTooBig in
         tested (is_zero u)
         (λ y.
         let l : word_seen s at ≤ n = rw y at k in
@@ -150,10 +148,10 @@ module _ {n : ℕ} {s t : List ℕ} (a : Alike n s t) where
     unfolding clause_at start_at
     clause_at_same Plain absence at k = from_same 0 at absence k
     clause_at_same Weighted absence at k =
-        start_same (number_of Reason.weight_too_big) absence at (uint_at s largest at) (uint_at t largest at) (uint_moves s largest at) (uint_follows a largest at) k
+        start_same (number_of Reason.WeightTooBig) absence at (uint_at s largest at) (uint_at t largest at) (uint_moves s largest at) (uint_follows a largest at) k
     clause_at_same Grouped absence at k =
         let g = limits.groups in
-        start_same (number_of Reason.group_too_big) absence at (braced_uint_at s g at) (braced_uint_at t g at) (braced_uint_moves s g at) (braced_uint_follows a g at) k
+        start_same (number_of Reason.GroupTooBig) absence at (braced_uint_at s g at) (braced_uint_at t g at) (braced_uint_moves s g at) (braced_uint_follows a g at) k
     clause_at_same Weighted2022 absence at k = start_in_2022_same absence at k
 
     pub next_clause_same : (f : Format) (count at : ℕ) → answer_seen s (next_clause s f limits room count at) ≤ n
@@ -179,7 +177,7 @@ module _ {n : ℕ} {s t : List ℕ} (a : Alike n s t) where
     unfolding answer_at
     answer_same f p = go p.last
       where
-        go : (x : Final) → answer_seen s (answer_by s f limits room p x) ≤ n → answer_by t f limits room p x ≡ answer_by s f limits room p x
-        go final.Open k = next_clause_same f p.count p.place k
-        go final.Ended k = refl
-        go (final.Refused r) k = refl
+        go : (x : Option (Result Unit Refusal)) → answer_seen s (answer_by s f limits room p x) ≤ n → answer_by t f limits room p x ≡ answer_by s f limits room p x
+        go None k = next_clause_same f p.count p.place k
+        go (Some (Ok u)) k = refl
+        go (Some (Err r)) k = refl

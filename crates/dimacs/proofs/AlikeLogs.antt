@@ -1,4 +1,6 @@
 -- Two texts with the same first bytes are as logs refused alike among them. Assumes nothing.
+use Rattle.std.specs.Prelude.{Some}
+use Rattle.std.specs.Prelude.{Option}
 use Prim.Native.Nat.{ℕ, zero, suc, ◌+◌, ◌-◌, ◌≤◌, ◌<◌}
 use mathlib.Core.Bool.{false, ◌||◌}
 use mathlib.Core.List.{List}
@@ -40,7 +42,7 @@ module _ {n : ℕ} {s t : List ℕ} (a : Alike n s t) where
       → ◌≡◌ {A = Step Log LogAnswer} (answer (refused_log (numbered t number at) so)) (answer (refused_log (numbered s number at) so))
   refused_log_same number at so h = ap (λ r. answer (refused_log r so)) (numbered_same a number at h)
 
-  line_read_same : (at : ℕ) (verdict : Verdict) (g : Assignment) (so : List ℤ) → StepSeen n s (line_read s at verdict g so)
+  line_read_same : (at : ℕ) (verdict : Option Verdict) (g : Assignment) (so : List ℤ) → StepSeen n s (line_read s at verdict g so)
       → (word_seen s at ≤ n) × (line_read t at verdict g so ≡ line_read s at verdict g so)
   unfolding end_of_line numbered
   line_read_same at verdict g so k =
@@ -90,8 +92,8 @@ module _ {n : ℕ} {s t : List ℕ} (a : Alike n s t) where
         let q = next d in
         (q.0, rw (fixed_same a w at o (omega (arith, q.0)), z) q.1))
         (λ z.
-        let d : StepSeen n s (line_read s e v r.assignment r.so) = rw z at k in
-        let q = line_read_same e v r.assignment r.so d in
+        let d : StepSeen n s (line_read s e (Some v) r.assignment r.so) = rw z at k in
+        let q = line_read_same e (Some v) r.assignment r.so d in
         let l : word_seen s at ≤ n = there z q.0 in
         (l, rw (fixed_same a w at o (omega arith), z) q.1))
       where
@@ -122,7 +124,7 @@ module _ {n : ℕ} {s t : List ℕ} (a : Alike n s t) where
       (λ y. let l : next_line s e < n = rw y at k in rw (y, next_line_same a e l)))
 
   -- The end of the text is not seen.
-  end_unseen : (at : ℕ) (verdict : Verdict) (so : List ℤ) (g : Assignment) → length s ≤ at → log_seen s (log_end s at verdict so g) ≤ n → ⊥
+  end_unseen : (at : ℕ) (verdict : Option Verdict) (so : List ℤ) (g : Assignment) → length s ≤ at → log_seen s (log_end s at verdict so g) ≤ n → ⊥
   unfolding numbered
   end_unseen at verdict so Unbegun h k = omega arith
   end_unseen at verdict so Begun h k = omega (arith, past_spans s at is_not_stop)

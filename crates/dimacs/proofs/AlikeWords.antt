@@ -1,5 +1,6 @@
 -- Two texts with the same first bytes have the same words and numbers among them. What a number is hangs on no byte past its word; where the blanks after it
 -- end is the same if they end among those bytes. Assumes nothing.
+use Rattle.std.specs.Prelude.{Option, None, Some}
 use Prim.Native.Nat.{ℕ, zero, suc, ◌+◌, ◌-◌, ◌*◌, ◌≤◌, ◌<◌, min}
 use Prim.Native.Char.{code}
 use mathlib.Core.Bool.{Bool, true, false, cond, not}
@@ -14,8 +15,6 @@ use Rattle.dimacs.specs.Names.{ceiling, numbered}
 use Rattle.dimacs.specs.Tokens.{past, begins, decimal, unmoved, Number, none, found, up_to, up_to_either_way, byte_at, blanks, fixed, word_ends, word, unsigned, braced, minus, uint_at, braced_uint_at, int_at, line_end, end_of_line, line_ends}
 use Rattle.dimacs.specs.Clauses.{is_zero}
 use Rattle.dimacs.specs.Seen.{line_seen, word_seen}
-use Rattle.dimacs.specs.declared.EndOfLine.{EndOfLine}
-use Rattle.dimacs.specs.declared.EndOfLine.TheVariants as end
 use Rattle.dimacs.specs.declared.Int.{Int}
 use Rattle.dimacs.specs.declared.Int.TheVariants as int
 use Rattle.dimacs.specs.declared.Refusal.{Refusal}
@@ -179,9 +178,9 @@ module _ {n : ℕ} {s t : List ℕ} (a : Alike n s t) where
   braced_uint_same limit at h k = up_to_alike n limit (braced s at) (braced t at) (braced_same at h k)
 
 -- The bytes that settle how a line is closed are among the first n.
-abbrev pub EndSeen : ℕ → List ℕ → ℕ → EndOfLine → Type 0
-EndSeen n s at end.Missing = word_seen s at ≤ n
-EndSeen n s at (end.Past e) = line_seen s e ≤ n
+abbrev pub EndSeen : ℕ → List ℕ → ℕ → Option ℕ → Type 0
+EndSeen n s at None = word_seen s at ≤ n
+EndSeen n s at (Some e) = line_seen s e ≤ n
 
 -- The bytes that settle a count, weight or group are among the first n.
 abbrev pub UintSeen : ℕ → List ℕ → ℕ → Uint → Type 0
@@ -201,10 +200,10 @@ module _ {n : ℕ} {s t : List ℕ} (a : Alike n s t) where
       (λ e. line_end_same a at (omega (arith, line_end_long s at e h)))
 
   -- Where no line end stands, what is refused is the same.
-  pub line_ends_same : {A : Type 0} (number at : ℕ) (then : ℕ → A) (why : Refusal → A) (x : EndOfLine) → EndSeen n s at x
+  pub line_ends_same : {A : Type 0} (number at : ℕ) (then : ℕ → A) (why : Refusal → A) (x : Option ℕ) → EndSeen n s at x
       → line_ends x then (why (numbered t number at)) ≡ line_ends x then (why (numbered s number at))
-  line_ends_same number at then why end.Missing k = ap why (numbered_same a number at k)
-  line_ends_same number at then why (end.Past e) k = refl
+  line_ends_same number at then why None k = ap why (numbered_same a number at k)
+  line_ends_same number at then why (Some e) k = refl
 
   -- How a line is closed is the same if it is seen, and so is the byte there. Before the end of a text that closes it stands no LF.
   pub end_same : (at : ℕ) → NoLFBefore s at → EndSeen n s at (end_of_line s at) → (at < n) × (end_of_line t at ≡ end_of_line s at)

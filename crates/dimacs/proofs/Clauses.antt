@@ -1,4 +1,5 @@
 -- A clause takes at least two bytes, or one where the text ends. Assumes nothing.
+use Rattle.std.specs.Prelude.{Option, None, Some, Result, Ok, Err}
 use Prim.Native.Nat.{ℕ, suc, ◌+◌, ◌-◌, ◌/◌, ◌≤◌, ◌<◌, max}
 use mathlib.Core.List.{List, []}
 use mathlib.Core.Path.{◌≡◌}
@@ -8,7 +9,8 @@ use lib.Dec.{eqb}
 use lib.ListN.{length}
 use lib.IntN.{ℤ}
 use Rattle.dimacs.specs.Loop.{Step, again, answer}
-use Rattle.dimacs.specs.Names.{Reason, number_of, numbered, refusal, largest, hard}
+use Rattle.dimacs.specs.Names.{number_of, numbered, refusal, largest, hard}
+use Rattle.dimacs.specs.declared.Reason.{Reason}
 use Rattle.dimacs.specs.Bytes.{bytes}
 use Rattle.dimacs.specs.Tokens.{unmoved, at_end, word, linebreaks, uint_at, braced_uint_at, end_of_line, line_ends}
 use Rattle.dimacs.specs.Rows.{Row, ends, closes, stops, read_by, Reading, reads, row}
@@ -19,12 +21,8 @@ use Rattle.dimacs.specs.declared.Format.TheVariants.{Plain, Weighted, Grouped, W
 use Rattle.dimacs.specs.declared.Refusal.{Refusal}
 use Rattle.dimacs.specs.declared.Absence.{Absence}
 use Rattle.dimacs.specs.declared.Absence.TheVariants.{MayEnd, NoClause, NoLiterals}
-use Rattle.dimacs.specs.declared.Instead.{Instead}
-use Rattle.dimacs.specs.declared.Instead.TheVariants.{Ended, Refused}
 use Rattle.dimacs.specs.declared.Uint.{Uint}
 use Rattle.dimacs.specs.declared.Uint.TheVariants as uint
-use Rattle.dimacs.specs.declared.EndOfLine.{EndOfLine}
-use Rattle.dimacs.specs.declared.EndOfLine.TheVariants as end
 use Rattle.dimacs.proofs.Loops.{Leads, Falls, after, unrolled, kept}
 use Rattle.dimacs.proofs.Tests.{tested, chosen}
 use Rattle.dimacs.proofs.Spans.{Spans, then_spans, Moves, moves, moves_then, EndCloses, end_closes, word_spans, linebreaks_spans, UintMoves, uint_moves, braced_uint_moves}
@@ -44,8 +42,8 @@ LiteralsFit room (stopped r so) = length so ≤ room
 
 module _ (s : List ℕ) (limit room : ℕ) where
   -- What holds of every way on that a row opens.
-  pub by_row : (P : Step Reading Literals → Type 0) (held at : ℕ) (so : List ℤ) → P (answer nothing) → P (answer (stopped (refusal s Reason.literal_expected_after_lines at) so))
-      → P (answer (stopped (refusal s Reason.literal_expected at) so)) → (Moves s at (linebreaks s at) → P (again (reads (linebreaks s at) so)))
+  pub by_row : (P : Step Reading Literals → Type 0) (held at : ℕ) (so : List ℤ) → P (answer nothing) → P (answer (stopped (refusal s Reason.LiteralExpectedAfterLines at) so))
+      → P (answer (stopped (refusal s Reason.LiteralExpected at) so)) → (Moves s at (linebreaks s at) → P (again (reads (linebreaks s at) so)))
       → P (on_row s limit room held (ends at so))
   by_row P held at so n a b c =
       chosen P (eqb (length so) 0) (λ _. n)
@@ -160,10 +158,10 @@ module _ (s : List ℕ) where
 
   -- A clause of the 2022 form begins in one of four ways, and only that by its weight hangs on what an absent number means: here on two such meanings side by side.
   pub starts_in_2022 : (P : Start → Start → Type 0) (x y : Absence) (at : ℕ)
-      → let header = without (Refused (refusal s Reason.header_not_expected at)) in P header header
+      → let header = without (Err (refusal s Reason.HeaderNotExpected at)) in P header header
       → let hardOne = literals_after s hard (word s (bytes "h") at) in P hardOne hardOne
-      → let zero = without (Refused (refusal s Reason.weight_zero at)) in P zero zero
-      → let soft = start_by s (number_of Reason.weight_too_big) in let weight = uint_at s largest at in P (soft x at weight) (soft y at weight)
+      → let zero = without (Err (refusal s Reason.WeightZero at)) in P zero zero
+      → let soft = start_by s (number_of Reason.WeightTooBig) in let weight = uint_at s largest at in P (soft x at weight) (soft y at weight)
       → P (start_in2022 s x at) (start_in2022 s y at)
   unfolding start_in2022
   starts_in_2022 P x y at header hardOne zero soft =
@@ -178,13 +176,13 @@ module _ (s : List ℕ) where
   start_in_2022_placed absence at =
       let h = word s (bytes "h") at in
       starts_in_2022 (λ _. StartPlaced s at) absence absence at (omega arith) (then_spans (word_spans s (bytes "h") at) (linebreaks_spans s h)) (omega arith)
-      (start_by_placed (number_of Reason.weight_too_big) absence at (uint_at s largest at) (uint_moves s largest at))
+      (start_by_placed (number_of Reason.WeightTooBig) absence at (uint_at s largest at) (uint_moves s largest at))
 
   start_placed : (f : Format) (groups : ℕ) (absence : Absence) (at : ℕ) → StartPlaced s at (start_at s f groups absence at)
   unfolding start_at
   start_placed Plain groups absence at = omega arith
-  start_placed Weighted groups absence at = start_by_placed (number_of Reason.weight_too_big) absence at (uint_at s largest at) (uint_moves s largest at)
-  start_placed Grouped groups absence at = start_by_placed (number_of Reason.group_too_big) absence at (braced_uint_at s groups at) (braced_uint_moves s groups at)
+  start_placed Weighted groups absence at = start_by_placed (number_of Reason.WeightTooBig) absence at (uint_at s largest at) (uint_moves s largest at)
+  start_placed Grouped groups absence at = start_by_placed (number_of Reason.GroupTooBig) absence at (braced_uint_at s groups at) (braced_uint_moves s groups at)
   start_placed Weighted2022 groups absence at = start_in_2022_placed absence at
 
   finish_onward : (extra at : ℕ) (absence : Absence) (l : Literals) → LiteralsSpan s at l → Onward s at (finish s extra at absence l)
@@ -192,9 +190,9 @@ module _ (s : List ℕ) where
   finish_onward extra at absence nothing m = absent_onward absence at
   finish_onward extra at absence (closed so e) m = go (end_of_line s e) (end_closes s e)
     where
-      go : (x : EndOfLine) → EndCloses s e x → Onward s at (line_ends x (says (clause extra so)) (says (refused (refusal s Reason.line_end_expected e) so) e))
-      go end.Missing c = omega arith
-      go (end.Past n) c = omega arith
+      go : (x : Option ℕ) → EndCloses s e x → Onward s at (line_ends x (says (clause extra so)) (says (refused (refusal s Reason.LineEndExpected e) so) e))
+      go None c = omega arith
+      go (Some n) c = omega arith
   finish_onward extra at absence (stopped r so) m = omega arith
 
 module _ (s : List ℕ) (limits : Limits) (room : ℕ) where
@@ -219,9 +217,9 @@ abbrev pub Fits : ℕ → Answered → Type 0
 Fits room d = AnswerFits room d.answer
 
 module _ (room : ℕ) where
-  pub instead_fits : (i : Instead) → Fits room (instead i)
-  instead_fits (Ended at) = tt
-  instead_fits (Refused r) = omega arith
+  pub instead_fits : (i : Result ℕ Refusal) → Fits room (instead i)
+  instead_fits (Ok at) = tt
+  instead_fits (Err r) = omega arith
 
 module _ (s : List ℕ) (limits : Limits) (room : ℕ) where
   finish_fits : (extra at : ℕ) (absence : Absence) (l : Literals) → LiteralsFit room l → Fits room (finish s extra at absence l)
@@ -229,9 +227,9 @@ module _ (s : List ℕ) (limits : Limits) (room : ℕ) where
   finish_fits extra at absence nothing h = instead_fits room (absent s absence at)
   finish_fits extra at absence (closed so e) h = go (end_of_line s e)
     where
-      go : (x : EndOfLine) → Fits room (line_ends x (says (clause extra so)) (says (refused (refusal s Reason.line_end_expected e) so) e))
-      go end.Missing = h
-      go (end.Past n) = h
+      go : (x : Option ℕ) → Fits room (line_ends x (says (clause extra so)) (says (refused (refusal s Reason.LineEndExpected e) so) e))
+      go None = h
+      go (Some n) = h
   finish_fits extra at absence (stopped r so) h = h
 
   pub clause_at_fits : (f : Format) (absence : Absence) (at : ℕ) → Fits room (clause_at s limits room f absence at)

@@ -1,11 +1,13 @@
 -- The 2022 form has no header and no counts, so that it is read alike strictly and leniently, and its hard clauses are those that begin with `h`. Assumes nothing.
+use Rattle.std.specs.Prelude.{Ok}
 use Prim.Native.Nat.{ℕ}
 use mathlib.Core.Bool.{Bool, false, not}
 use mathlib.Core.List.{List}
 use mathlib.Core.Path.{◌≡◌, refl}
 use lib.Dec.{eqb}
 use Rattle.dimacs.specs.Bytes.{bytes}
-use Rattle.dimacs.specs.Names.{Reason, in_mode, number_of, largest, hard}
+use Rattle.dimacs.specs.Names.{in_mode, number_of, largest, hard}
+use Rattle.dimacs.specs.declared.Reason.{Reason}
 use Rattle.dimacs.specs.Tokens.{unmoved, blanks, lines, word, uint_at}
 use Rattle.dimacs.specs.Header.{opening_of}
 use Rattle.dimacs.specs.Clauses.{Start, with_literals, without, is_zero, start_by, start_in2022}
@@ -19,7 +21,7 @@ use Rattle.dimacs.specs.declared.Uint.{Uint}
 use Rattle.dimacs.specs.declared.Uint.TheVariants as uint
 use Rattle.dimacs.proofs.Tests.{tested, chosen}
 
-pub no_header_in_2022 : (s : List ℕ) → opening_of s Weighted2022 ≡ opening.NoHeader (lines s (blanks s 0))
+pub no_header_in_2022 : (s : List ℕ) → opening_of s Weighted2022 ≡ Ok (opening.NoHeader (lines s (blanks s 0)))
 unfolding opening_of
 no_header_in_2022 s = refl
 
@@ -33,7 +35,7 @@ Hard b (with_literals extra at absence) = eqb extra hard ≡ b
 Hard b (without i) = Unit {0}
 
 module _ (s : List ℕ) where
-  start_soft : (absence : Absence) (at : ℕ) (u : Uint) → is_zero u ≡ false → Hard false (start_by s (number_of Reason.weight_too_big) absence at u)
+  start_soft : (absence : Absence) (at : ℕ) (u : Uint) → is_zero u ≡ false → Hard false (start_by s (number_of Reason.WeightTooBig) absence at u)
   start_soft absence at uint.Missing h = tt
   start_soft absence at (uint.Value n e) h = h
   start_soft absence at uint.TooBig h = tt

@@ -1,4 +1,5 @@
 -- Line ends and comments, case by case. Assumes nothing.
+use Rattle.std.specs.Prelude.{None, Some}
 use Prim.Native.Nat.{ℕ, suc, ◌+◌, ◌-◌, ◌≤◌, ◌<◌}
 use mathlib.Core.Bool.{Bool, true, false, ◌&&◌}
 use mathlib.Core.List.{List}
@@ -9,7 +10,6 @@ use lib.Dec.{eqb}
 use lib.ListN.{length, get_or, get_or-eq_default}
 use Rattle.dimacs.specs.Bytes.{bytes, is_not_lf}
 use Rattle.dimacs.specs.Tokens.{past, blanks, line_end, next_line, end_of_line, fixed, strict_comment, newline, line_past, comment_or_newline, lines, linebreaks}
-use Rattle.dimacs.specs.declared.EndOfLine.TheVariants as end
 use Rattle.dimacs.proofs.Bytes.{is_lf}
 use Rattle.dimacs.proofs.Past.{past_stop, past_end}
 use Rattle.dimacs.proofs.Spans.{line_past_moved, lines_step}
@@ -35,17 +35,17 @@ module _ (s : List ℕ) (at : ℕ) where
       no true b h = h refl
       no false b h = refl
 
-  pub end_at_end : length s ≤ at → end_of_line s at ≡ end.Past at
+  pub end_at_end : length s ≤ at → end_of_line s at ≡ Some at
   unfolding end_of_line
   end_at_end h = rw (le-leb (length s) at h)
 
   -- By a line end e that a call found, or did not.
   module _ (e : ℕ) (is : e ≡ line_end s at) where
-    pub end_at_line : at < length s → (e ≡ at → ⊥) → end_of_line s at ≡ end.Past e
+    pub end_at_line : at < length s → (e ≡ at → ⊥) → end_of_line s at ≡ Some e
     unfolding end_of_line
     end_at_line h n = rw (lt-leb (length s) at h, sym is, ne_eqb e at n)
 
-    pub end_missing : at < length s → e ≡ at → end_of_line s at ≡ end.Missing
+    pub end_missing : at < length s → e ≡ at → end_of_line s at ≡ None
     unfolding end_of_line
     end_missing h n = rw (lt-leb (length s) at h, sym is, eq-eqb e at n)
 

@@ -5,7 +5,8 @@ use mathlib.Core.Path.{◌≡◌, refl, sym, ◌∙◌}
 use borrow.Author.Tests.{eq-eqb, ne_eqb}
 use lib.ListN.{length}
 use lib.IntN.{ℤ}
-use Rattle.dimacs.specs.Names.{Reason, refusal}
+use Rattle.dimacs.specs.Names.{refusal}
+use Rattle.dimacs.specs.declared.Reason.{Reason}
 use Rattle.dimacs.specs.Tokens.{linebreaks, int_at}
 use Rattle.dimacs.specs.Rows.{Row, ends, closes, stops, Reading, reads, row}
 use Rattle.dimacs.specs.Clauses.{nothing, closed, stopped, on_row, next_row, literals_from, literals}
@@ -31,11 +32,11 @@ module _ (s : List ℕ) (limit room : ℕ) (r : Reading) where
     nothing_there z = on e ∙ rw (eq-eqb (length so) 0 z)
 
     module _ (z : length so ≡ 0 → ⊥) where
-      pub none_after_lines : length so ≡ length r.so → literals_from s limit room r ≡ stopped (refusal s Reason.literal_expected_after_lines at) so
+      pub none_after_lines : length so ≡ length r.so → literals_from s limit room r ≡ stopped (refusal s Reason.LiteralExpectedAfterLines at) so
       none_after_lines h = on e ∙ rw (ne_eqb (length so) 0 z, eq-eqb (length so) (length r.so) h)
 
       module _ (h : length so ≡ length r.so → ⊥) (q : ℕ) (is : q ≡ linebreaks s at) where
-        pub none_on_line : q ≡ at → literals_from s limit room r ≡ stopped (refusal s Reason.literal_expected at) so
+        pub none_on_line : q ≡ at → literals_from s limit room r ≡ stopped (refusal s Reason.LiteralExpected at) so
         none_on_line k = on e ∙ rw (ne_eqb (length so) 0 z, ne_eqb (length so) (length r.so) h, sym is, eq-eqb q at k)
 
         pub breaks : (q ≡ at → ⊥) → literals_from s limit room r ≡ literals_from s limit room (reads q so)

@@ -1,4 +1,5 @@
 -- The laws of reading a log: a line and then the rest of the lines. Assumes nothing.
+use Rattle.std.specs.Prelude.{Option, None, Some}
 use Prim.Native.Nat.{ℕ, suc, ◌-◌, ◌<◌}
 use mathlib.Core.Bool.{◌||◌}
 use mathlib.Core.List.{List}
@@ -9,7 +10,8 @@ use lib.ListN.{length}
 use lib.IntN.{ℤ}
 use Rattle.dimacs.specs.Loop.{Step, again, answer}
 use Rattle.dimacs.specs.Bytes.{bytes}
-use Rattle.dimacs.specs.Names.{Reason, numbered, refusal, ceiling}
+use Rattle.dimacs.specs.Names.{numbered, refusal, ceiling}
+use Rattle.dimacs.specs.declared.Reason.{Reason}
 use Rattle.dimacs.specs.Lined.{lined}
 use Rattle.dimacs.specs.Tokens.{unmoved, at_end, blanks, fixed, strict_comment, end_of_line, line_ends}
 use Rattle.dimacs.specs.Rows.{Row, ends, closes, stops, reads, row}
@@ -20,8 +22,6 @@ use Rattle.dimacs.specs.declared.Rigor.TheVariants.{Strict, Lenient}
 use Rattle.dimacs.specs.declared.Verdict.{Verdict}
 use Rattle.dimacs.specs.declared.Assignment.{Assignment}
 use Rattle.dimacs.specs.declared.Assignment.TheVariants.{Unbegun, Begun, Closed}
-use Rattle.dimacs.specs.declared.EndOfLine.{EndOfLine}
-use Rattle.dimacs.specs.declared.EndOfLine.TheVariants as end
 use Rattle.dimacs.proofs.Loops.{Leads, Falls, after, unrolled, kept}
 use Rattle.dimacs.proofs.Tests.{chosen, neither_right}
 use Rattle.dimacs.proofs.Spans.{Spans, then_spans, Moves, moves, then_moves, EndCloses, end_closes, blanks_spans, strict_comment_spans, next_line_moves, fixed_spans}
@@ -38,14 +38,14 @@ LineLeads s at = Leads (λ l. Moves s at l.at) (LogSpans s at)
 
 module _ (s : List ℕ) (room : ℕ) where
   -- A line that is read from a place past its first bytes.
-  line_read_leads : (at e : ℕ) (verdict : Verdict) (a : Assignment) (so : List ℤ) → Moves s at e → LineLeads s at (line_read s e verdict a so)
+  line_read_leads : (at e : ℕ) (verdict : Option Verdict) (a : Assignment) (so : List ℤ) → Moves s at e → LineLeads s at (line_read s e verdict a so)
   unfolding numbered
   line_read_leads at e verdict a so m = go (end_of_line s e) (end_closes s e)
     where
-      go : (x : EndOfLine) → EndCloses s e x
-          → LineLeads s at (line_ends x (λ next. again (log_at next verdict a so)) (answer (refused_log (refusal s Reason.line_end_expected e) so)))
-      go end.Missing c = omega arith
-      go (end.Past n) c = omega arith
+      go : (x : Option ℕ) → EndCloses s e x
+          → LineLeads s at (line_ends x (λ next. again (log_at next verdict a so)) (answer (refused_log (refusal s Reason.LineEndExpected e) so)))
+      go None c = omega arith
+      go (Some n) c = omega arith
 
   value_line_leads : (at e : ℕ) (l : Log) → Moves s at e → LineLeads s at (value_line s room e l)
   unfolding value_line
@@ -75,7 +75,7 @@ module _ (s : List ℕ) (room : ℕ) where
       (solution_is_leads at e _ _ l _ m
       (omega arith)))
 
-  log_end_spans : (at : ℕ) (verdict : Verdict) (so : List ℤ) (a : Assignment) → LogSpans s at (log_end s at verdict so a)
+  log_end_spans : (at : ℕ) (verdict : Option Verdict) (so : List ℤ) (a : Assignment) → LogSpans s at (log_end s at verdict so a)
   unfolding numbered
   log_end_spans at verdict so Unbegun = tt
   log_end_spans at verdict so Begun = omega arith

@@ -1,4 +1,6 @@
 -- A clause that is read under limits and is within others, and the end where it may come, is read so under those. Assumes nothing.
+use Rattle.std.specs.Prelude.{Option, None, Some, Result, Ok, Err}
+use Rattle.dimacs.specs.declared.Refusal.{Refusal}
 use Prim.Native.Nat.{ℕ, ◌≤◌, ◌<◌}
 use mathlib.Core.List.{List}
 use mathlib.Core.Logic.{◌⊎◌, inl, inr, ⊎_elim}
@@ -7,7 +9,8 @@ use native.Mathlib.Omega.{arith}
 use borrow.Author.Tests.{eq-eqb, ne_eqb, le-leb, lt-leb, leb-true}
 use lib.Dec.{leb, eqb}
 use lib.ListN.{length}
-use Rattle.dimacs.specs.Names.{Reason, number_of, refusal, largest}
+use Rattle.dimacs.specs.Names.{number_of, refusal, largest}
+use Rattle.dimacs.specs.declared.Reason.{Reason}
 use Rattle.dimacs.specs.Tokens.{Number, none, found, up_to, braced, at_end, blanks, lines, uint_at, end_of_line, line_ends, braced_uint_at}
 use Rattle.dimacs.specs.Clauses.{Literals, nothing, closed, stopped, literals, Answer, clause, ended, refused, says, instead, absent, Start, with_literals, without, start_by, start_in2022, start_at, closing, finish, clause_by, clause_at}
 use Rattle.dimacs.specs.Texts.{next_clause}
@@ -17,12 +20,8 @@ use Rattle.dimacs.specs.declared.Format.TheVariants.{Plain, Weighted, Grouped, W
 use Rattle.dimacs.specs.declared.Limits.{Limits}
 use Rattle.dimacs.specs.declared.Absence.{Absence}
 use Rattle.dimacs.specs.declared.Absence.TheVariants.{MayEnd, NoClause, NoLiterals}
-use Rattle.dimacs.specs.declared.Instead.{Instead}
-use Rattle.dimacs.specs.declared.Instead.TheVariants.{Ended, Refused}
 use Rattle.dimacs.specs.declared.Uint.{Uint}
 use Rattle.dimacs.specs.declared.Uint.TheVariants as uint
-use Rattle.dimacs.specs.declared.EndOfLine.{EndOfLine}
-use Rattle.dimacs.specs.declared.EndOfLine.TheVariants as end
 use Rattle.dimacs.proofs.Tests.{tested}
 use Rattle.dimacs.proofs.Clauses.{starts_in_2022}
 use Rattle.dimacs.proofs.Order.{end_permitted, clause_none}
@@ -56,9 +55,9 @@ abbrev StartNarrowed : Format → ℕ → Start → Start → Type 0
 StartNarrowed f narrow x (with_literals extra e i) = GroupWithin f narrow extra → BeginsAt extra e x
 StartNarrowed f narrow x (without i) = Unit {0}
 
-no_clause_instead : (f : Format) (limits : Limits) (i : Instead) → ClauseWithin f limits (instead i).answer → ⊥
-no_clause_instead f limits (Ended e) h = h
-no_clause_instead f limits (Refused r) h = h
+no_clause_instead : (f : Format) (limits : Limits) (i : Result ℕ Refusal) → ClauseWithin f limits (instead i).answer → ⊥
+no_clause_instead f limits (Ok e) h = h
+no_clause_instead f limits (Err r) h = h
 
 module _ (s : List ℕ) where
   start_by_narrowed : (f : Format) (narrow big : ℕ) (x y : Absence) (at : ℕ) (u : Uint) → StartNarrowed f narrow (start_by s big x at u) (start_by s big y at u)
@@ -75,13 +74,13 @@ module _ (s : List ℕ) where
   start_in_2022_narrowed : (narrow : ℕ) (x y : Absence) (at : ℕ) → StartNarrowed Weighted2022 narrow (start_in2022 s x at) (start_in2022 s y at)
   start_in_2022_narrowed narrow x y at =
       starts_in_2022 s (StartNarrowed Weighted2022 narrow) x y at tt (λ _. (refl, refl)) tt
-      (start_by_narrowed Weighted2022 narrow (number_of Reason.weight_too_big) x y at (uint_at s largest at))
+      (start_by_narrowed Weighted2022 narrow (number_of Reason.WeightTooBig) x y at (uint_at s largest at))
 
   start_narrowed : (f : Format) (narrow wide : ℕ) (x y : Absence) (at : ℕ) → StartNarrowed f narrow (start_at s f narrow x at) (start_at s f wide y at)
   unfolding start_at braced_uint_at
   start_narrowed Plain narrow wide x y at = λ _. (refl, refl)
-  start_narrowed Weighted narrow wide x y at = start_by_narrowed Weighted narrow (number_of Reason.weight_too_big) x y at (uint_at s largest at)
-  start_narrowed Grouped narrow wide x y at = group_narrowed narrow wide (number_of Reason.group_too_big) x y at (braced s at)
+  start_narrowed Weighted narrow wide x y at = start_by_narrowed Weighted narrow (number_of Reason.WeightTooBig) x y at (uint_at s largest at)
+  start_narrowed Grouped narrow wide x y at = group_narrowed narrow wide (number_of Reason.GroupTooBig) x y at (braced s at)
   start_narrowed Weighted2022 narrow wide x y at = start_in_2022_narrowed narrow x y at
 
   -- Of a clause that is within the limits, the group and the literals are.
@@ -91,10 +90,10 @@ module _ (s : List ℕ) where
   finish_within f limits extra at y nothing h = absurd (no_clause_instead f limits (absent s y at) h)
   finish_within f limits extra at y (closed so e) h = go (end_of_line s e) h
     where
-      go : (x : EndOfLine) → ClauseWithin f limits (line_ends x (says (clause extra so)) (says (refused (refusal s Reason.line_end_expected e) so) e)).answer
+      go : (x : Option ℕ) → ClauseWithin f limits (line_ends x (says (clause extra so)) (says (refused (refusal s Reason.LineEndExpected e) so) e)).answer
           → GroupWithin f limits.groups extra × LiteralsWithin limits.literals so
-      go end.Missing k = absurd k
-      go (end.Past n) k = k
+      go None k = absurd k
+      go (Some n) k = k
   finish_within f limits extra at y (stopped r so) h = absurd h
 
   -- The end is answered at the end alone, and where it may come.
@@ -117,19 +116,19 @@ module _ (s : List ℕ) where
   start_end : (f : Format) (groups : ℕ) (y : Absence) (at : ℕ) → EndsBy y at (start_at s f groups y at)
   unfolding start_at
   start_end Plain groups y at = inl (refl, refl)
-  start_end Weighted groups y at = start_by_end (number_of Reason.weight_too_big) y at (uint_at s largest at)
-  start_end Grouped groups y at = start_by_end (number_of Reason.group_too_big) y at (braced_uint_at s groups at)
+  start_end Weighted groups y at = start_by_end (number_of Reason.WeightTooBig) y at (uint_at s largest at)
+  start_end Grouped groups y at = start_by_end (number_of Reason.GroupTooBig) y at (braced_uint_at s groups at)
   start_end Weighted2022 groups y at =
-      starts_in_2022 s (λ _. EndsBy y at) y y at (λ h. absurd h) (inr refl) (λ h. absurd h) (start_by_end (number_of Reason.weight_too_big) y at (uint_at s largest at))
+      starts_in_2022 s (λ _. EndsBy y at) y y at (λ h. absurd h) (inr refl) (λ h. absurd h) (start_by_end (number_of Reason.WeightTooBig) y at (uint_at s largest at))
 
   finish_end : (extra at : ℕ) (y : Absence) (l : Literals) → IsEnd (finish s extra at y l).answer → IsEnd (instead (absent s y at)).answer
   unfolding closing
   finish_end extra at y nothing h = h
   finish_end extra at y (closed so e) h = absurd (go (end_of_line s e) h)
     where
-      go : (x : EndOfLine) → IsEnd (line_ends x (says (clause extra so)) (says (refused (refusal s Reason.line_end_expected e) so) e)).answer → ⊥
-      go end.Missing k = k
-      go (end.Past n) k = k
+      go : (x : Option ℕ) → IsEnd (line_ends x (says (clause extra so)) (says (refused (refusal s Reason.LineEndExpected e) so) e)).answer → ⊥
+      go None k = k
+      go (Some n) k = k
   finish_end extra at y (stopped r so) h = absurd h
 
 -- The answer after so many clauses is within the limits: a clause that may come, or the end where no clause is owed.

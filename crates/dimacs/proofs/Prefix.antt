@@ -1,4 +1,6 @@
 -- Texts are judged in byte order: what the first bytes of a text settle is answered of every text with the same first bytes. Assumes nothing.
+use Rattle.std.specs.Prelude.{Result, Ok, Err}
+use Rattle.dimacs.specs.declared.Refusal.{Refusal}
 use Prim.Native.Nat.{ℕ, zero, suc, ◌≤◌, min, max}
 use mathlib.Core.List.{List, ◌∷◌}
 use mathlib.Core.Path.{◌≡◌, refl, ap, sym, ◌∙◌, subst}
@@ -88,19 +90,19 @@ prefix_by : (f : Format) (rigor : Rigor) (room k : ℕ) (s t : List ℕ) → Agr
     → SameFirst k (text_by f rigor room t (opening_of t f)) (text_by f rigor room s (opening_of s f))
 prefix_by f rigor room k s t = go (opening_of s f) (opening_prefix s t f)
   where
-    go : (o : Opening) → (Agree (opening_seen s o) s t → opening_of t f ≡ o) → Agree (text_seen_by f rigor room k s o) s t
+    go : (o : Result Opening Refusal) → (Agree (opening_seen s o) s t → opening_of t f ≡ o) → Agree (text_seen_by f rigor room k s o) s t
         → SameFirst k (text_by f rigor room t (opening_of t f)) (text_by f rigor room s o)
-    go (opening.Header h at) is e =
-        let x = opening_seen s (opening.Header h at) in
+    go (Ok (opening.Header h at)) is e =
+        let x = opening_seen s (Ok (opening.Header h at)) in
         let y = answers_seen s f (limits_of f rigor h) room k (begin at) in
         rw (is (agree_less x (max x y) s t (omega arith) e))
         (record { opened = refl; answers = answers_prefix s t f (limits_of f rigor h) room k (begin at) (agree_less y (max x y) s t (omega arith) e) })
-    go (opening.NoHeader at) is e =
-        let x = opening_seen s (opening.NoHeader at) in
+    go (Ok (opening.NoHeader at)) is e =
+        let x = opening_seen s (Ok (opening.NoHeader at)) in
         let y = answers_seen s f unlimited room k (begin at) in
         rw (is (agree_less x (max x y) s t (omega arith) e))
         (record { opened = refl; answers = answers_prefix s t f unlimited room k (begin at) (agree_less y (max x y) s t (omega arith) e) })
-    go (opening.Refused r) is e = rw (is e) (record { opened = refl; answers = refl })
+    go (Err r) is e = rw (is e) (record { opened = refl; answers = refl })
 
 -- Nor do the opening of a whole text and its first k answers.
 pub text_prefix : (f : Format) (m : Mode) (room k : ℕ) (s t : List ℕ) → Agree (text_seen f m room k s) s t → SameFirst k (text f m room t) (text f m room s)

@@ -8,7 +8,8 @@ use lib.Dec.{leb}
 use lib.ListN.{length, length-append}
 use lib.IntN.{ℤ}
 use Rattle.dimacs.specs.Loop.{Step}
-use Rattle.dimacs.specs.Names.{Reason, numbered, refusal}
+use Rattle.dimacs.specs.Names.{numbered, refusal}
+use Rattle.dimacs.specs.declared.Reason.{Reason}
 use Rattle.dimacs.specs.Tokens.{int_at}
 use Rattle.dimacs.specs.Rows.{Row, ends, closes, stops, read_by, Reading, reads, on_int, next_int, row}
 use Rattle.dimacs.specs.declared.Int.{Int}
@@ -98,11 +99,11 @@ module _ (s : List ℕ) (limit room at : ℕ) (so : List ℤ) where
   pub row_closes : {n : ℕ} → int_at s limit at ≡ int.Zero n → row s limit room (reads at so) ≡ closes n so
   row_closes e = on e
 
-  pub row_too_big : int_at s limit at ≡ int.TooBig → row s limit room (reads at so) ≡ stops (refusal s Reason.literal_too_big at) so
+  pub row_too_big : int_at s limit at ≡ int.TooBig → row s limit room (reads at so) ≡ stops (refusal s Reason.LiteralTooBig at) so
   row_too_big e = on e
 
   pub row_full : {v : ℤ} {n : ℕ} → int_at s limit at ≡ int.Literal v n → room ≤ length so
-      → row s limit room (reads at so) ≡ stops (refusal s Reason.buffer_full at) so
+      → row s limit room (reads at so) ≡ stops (refusal s Reason.BufferFull at) so
   row_full e h = on e ∙ rw (le-leb room (length so) h)
 
   pub row_takes : {v : ℤ} {n : ℕ} → int_at s limit at ≡ int.Literal v n → length so < room

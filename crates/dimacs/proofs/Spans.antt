@@ -1,4 +1,5 @@
 -- Where tokens end: a token leads on and never past the end of the text, so one that stands moves the place within it. Assumes nothing.
+use Rattle.std.specs.Prelude.{Option, None, Some}
 use Prim.Native.Nat.{ℕ, suc, ◌+◌, ◌-◌, ◌≤◌, ◌<◌, min, max}
 use Prim.Native.Char.{code}
 use mathlib.Core.Bool.{Bool, true, false, cond, ◌&&◌}
@@ -15,8 +16,6 @@ use Rattle.dimacs.specs.declared.Uint.{Uint}
 use Rattle.dimacs.specs.declared.Uint.TheVariants as uint
 use Rattle.dimacs.specs.declared.Int.{Int}
 use Rattle.dimacs.specs.declared.Int.TheVariants as int
-use Rattle.dimacs.specs.declared.EndOfLine.{EndOfLine}
-use Rattle.dimacs.specs.declared.EndOfLine.TheVariants as end
 use Rattle.dimacs.proofs.Tests.{chosen, both_right}
 use Rattle.dimacs.proofs.Loops.{Leads, Falls, after, unrolled, kept}
 
@@ -144,9 +143,9 @@ pub record Closes (s : List ℕ) (at e : ℕ) : Type 0 where
   pub within : e ≤ max at (length s)
   pub takes : min (at + 1) (length s) ≤ e
 
-abbrev pub EndCloses : List ℕ → ℕ → EndOfLine → Type 0
-EndCloses s at end.Missing = Unit {0}
-EndCloses s at (end.Past e) = Closes s at e
+abbrev pub EndCloses : List ℕ → ℕ → Option ℕ → Type 0
+EndCloses s at None = Unit {0}
+EndCloses s at (Some e) = Closes s at e
 
 pub end_closes : (s : List ℕ) (at : ℕ) → EndCloses s at (end_of_line s at)
 unfolding end_of_line

@@ -1,5 +1,6 @@
 -- A text of n bytes has at most (n + 1) / 2 clauses; its answers end in one end or one refusal, which is then repeated and whose place is within
 -- the text. Assumes nothing.
+use Rattle.std.specs.Prelude.{Option, None, Some, Result, Ok, Err}
 use Prim.Native.Nat.{ℕ, zero, suc, ◌+◌, ◌/◌, ◌≤◌, ◌<◌}
 use mathlib.Core.List.{List, [], ◌∷◌}
 use mathlib.Core.Path.{◌≡◌, refl, subst⁻¹}
@@ -8,7 +9,8 @@ use lib.Dec.{leb, eqb}
 use lib.ListN.{length}
 use lib.IntN.{ℤ}
 use Rattle.dimacs.specs.Bytes.{bytes}
-use Rattle.dimacs.specs.Names.{variable_count_expected, variable_count_too_big, clause_count_expected, clause_count_too_big, third_count_expected, third_count_too_big, Reason, numbered, refusal, ceiling, largest}
+use Rattle.dimacs.specs.Names.{numbered, refusal, ceiling, largest}
+use Rattle.dimacs.specs.declared.Reason.{Reason}
 use Rattle.dimacs.specs.Lined.{lined}
 use Rattle.dimacs.specs.Tokens.{unmoved, blanks, lines, word, uint_at, end_of_line, line_ends}
 use Rattle.dimacs.specs.Header.{has_header, has_third, format_word, header_of, counted, header_end, third_there, third_count, clause_count, variable_count, after_p, opening_of, unlimited, limits_of}
@@ -25,12 +27,8 @@ use Rattle.dimacs.specs.declared.Opening.TheVariants as opening
 use Rattle.dimacs.specs.declared.Refusal.{Refusal}
 use Rattle.dimacs.specs.declared.Uint.{Uint}
 use Rattle.dimacs.specs.declared.Uint.TheVariants as uint
-use Rattle.dimacs.specs.declared.EndOfLine.{EndOfLine}
-use Rattle.dimacs.specs.declared.EndOfLine.TheVariants as end
 use Rattle.dimacs.specs.declared.Absence.TheVariants.{MayEnd, NoClause}
 use Rattle.dimacs.specs.declared.Progress.{Progress}
-use Rattle.dimacs.specs.declared.Final.{Final}
-use Rattle.dimacs.specs.declared.Final.TheVariants as final
 use Rattle.dimacs.proofs.Loops.{and_on, Gives, Lowers, said_unrolled, said_has}
 use Rattle.dimacs.proofs.Tests.{chosen}
 use Rattle.dimacs.proofs.Spans.{then_spans, EndCloses, end_closes, blanks_spans, lines_spans, word_spans, UintMoves, uint_moves, UintWithin, uint_within}
@@ -38,13 +36,13 @@ use Rattle.dimacs.proofs.Lined.{lined-length}
 use Rattle.dimacs.proofs.Clauses.{to_come, Placed, Onward, back, absent_onward, clause_at_onward, Fits, instead_fits, clause_at_fits}
 
 -- Where a text opens: the clauses begin, or the header is refused, within the text; no more variables are counted than the ceiling, and no other count is above the largest.
-abbrev pub Opens : List ℕ → Opening → Type 0
-Opens s (opening.Header h at) = (at ≤ length s) × (h.variables ≤ ceiling) × (h.third ≤ largest) × (h.clauses ≤ largest)
-Opens s (opening.NoHeader at) = at ≤ length s
-Opens s (opening.Refused r) = r.place ≤ length s
+abbrev pub Opens : List ℕ → Result Opening Refusal → Type 0
+Opens s (Ok (opening.Header h at)) = (at ≤ length s) × (h.variables ≤ ceiling) × (h.third ≤ largest) × (h.clauses ≤ largest)
+Opens s (Ok (opening.NoHeader at)) = at ≤ length s
+Opens s (Err r) = r.place ≤ length s
 
 module _ (s : List ℕ) where
-  counted_opens : (none big : Reason) (limit at : ℕ) (then : ℕ → ℕ → Opening) → at ≤ length s
+  counted_opens : (none big : Reason) (limit at : ℕ) (then : ℕ → ℕ → Result Opening Refusal) → at ≤ length s
       → ((n e : ℕ) → n ≤ limit → e ≤ length s → Opens s (then n e)) → Opens s (counted s none big at then (uint_at s limit at))
   unfolding numbered
   counted_opens none big limit at then h k = go (uint_at s limit at) (uint_moves s limit at) (uint_within s limit at)
@@ -58,23 +56,23 @@ module _ (s : List ℕ) where
   unfolding header_end numbered
   header_end_opens h at k n m l = go (end_of_line s at) (end_closes s at)
     where
-      go : (x : EndOfLine) → EndCloses s at x → Opens s (line_ends x (opening.Header h) (opening.Refused (refusal s Reason.line_end_expected at)))
-      go end.Missing c = l
-      go (end.Past e) c = omega arith
+      go : (x : Option ℕ) → EndCloses s at x → Opens s (line_ends x (λ next. Ok (opening.Header h next)) (Err (refusal s Reason.LineEndExpected at)))
+      go None c = l
+      go (Some e) c = omega arith
 
   third_opens : (f : Format) (v c at : ℕ) → v ≤ ceiling → c ≤ largest → at ≤ length s → Opens s (third_count s f v c at)
   unfolding third_count third_there
   third_opens f v c at k o l =
-      chosen (Opens s) (has_third f) (λ _. counted_opens third_count_expected third_count_too_big largest at _ l (λ t e n m. header_end_opens (header_of v c t) e k n o m))
+      chosen (Opens s) (has_third f) (λ _. counted_opens Reason.ThirdCountExpected Reason.ThirdCountTooBig largest at _ l (λ t e n m. header_end_opens (header_of v c t) e k n o m))
       (λ _. header_end_opens (header_of v c 0) at k (omega arith) o l)
 
   clause_count_opens : (f : Format) (v at : ℕ) → v ≤ ceiling → at ≤ length s → Opens s (clause_count s f v at)
   unfolding clause_count
-  clause_count_opens f v at k l = counted_opens clause_count_expected clause_count_too_big largest at _ l (λ c e o m. third_opens f v c e k o m)
+  clause_count_opens f v at k l = counted_opens Reason.ClauseCountExpected Reason.ClauseCountTooBig largest at _ l (λ c e o m. third_opens f v c e k o m)
 
   variable_count_opens : (f : Format) (at : ℕ) → at ≤ length s → Opens s (variable_count s f at)
   unfolding variable_count
-  variable_count_opens f at l = counted_opens variable_count_expected variable_count_too_big ceiling at _ l (λ v e k m. clause_count_opens f v e k m)
+  variable_count_opens f at l = counted_opens Reason.VariableCountExpected Reason.VariableCountTooBig ceiling at _ l (λ v e k m. clause_count_opens f v e k m)
 
   pub opening_opens : (f : Format) → Opens s (opening_of s f)
   unfolding opening_of after_p numbered
@@ -125,10 +123,10 @@ module _ (s : List ℕ) (f : Format) (limits : Limits) (room : ℕ) where
       by ended e h = tt
       by (refused r so) e h = tt
 
-      go : (x : Final) → let a = answer_by s f limits room c x in Lowers left c (turn_by (settled c a) a.answer)
-      go final.Open = let d = next_clause s f limits room c.count c.place in by d.answer d.place (next_clause_onward c.count c.place)
-      go final.Ended = tt
-      go (final.Refused r) = tt
+      go : (x : Option (Result Unit Refusal)) → let a = answer_by s f limits room c x in Lowers left c (turn_by (settled c a) a.answer)
+      go None = let d = next_clause s f limits room c.count c.place in by d.answer d.place (next_clause_onward c.count c.place)
+      go (Some (Ok u)) = tt
+      go (Some (Err r)) = tt
 
   -- One answer, and then those that come after it.
   pub answers_step : (c : Progress) → answers_from s f limits room c ≡ and_on (turn s f limits room c) (answers_from s f limits room)
@@ -154,13 +152,13 @@ pub answer_fits : (s : List ℕ) (f : Format) (limits : Limits) (room : ℕ) (c 
 unfolding answer_at next_clause
 answer_fits s f limits room c = go c.last
   where
-    go : (x : Final) → Fits room (answer_by s f limits room c x)
-    go final.Open =
+    go : (x : Option (Result Unit Refusal)) → Fits room (answer_by s f limits room c x)
+    go None =
         let e = lines s (blanks s c.place) in
         chosen (Fits room) (eqb limits.clauses 0) (λ _. clause_at_fits s limits room f MayEnd e)
         (λ _. chosen (Fits room) (leb limits.clauses c.count) (λ _. instead_fits room (absent s MayEnd e)) (λ _. clause_at_fits s limits room f NoClause e))
-    go final.Ended = tt
-    go (final.Refused r) = omega arith
+    go (Some (Ok u)) = tt
+    go (Some (Err r)) = omega arith
 
 -- An answer that is the end or a refusal is answered again after it, the refusal with no literals, and reading stays where it is.
 pub record Repeats (s : List ℕ) (f : Format) (limits : Limits) (room : ℕ) (c : Progress) (again : Answered) : Type 0 where
@@ -179,10 +177,10 @@ repeated s f limits room c at ended = record { answer = refl; stays = refl }
 repeated s f limits room c at (refused r so) = record { answer = refl; stays = refl }
 
 -- A whole text: a refused header has no answers; else they finish, with at most (n + 1) / 2 clauses in n bytes.
-abbrev pub TextEnds : ℕ → Opening → List Answer → Type 0
-TextEnds n (opening.Header h at) l = Finished ((n + 1) / 2) l
-TextEnds n (opening.NoHeader at) l = Finished ((n + 1) / 2) l
-TextEnds n (opening.Refused r) l = l ≡ []
+abbrev pub TextEnds : ℕ → Result Opening Refusal → List Answer → Type 0
+TextEnds n (Ok (opening.Header h at)) l = Finished ((n + 1) / 2) l
+TextEnds n (Ok (opening.NoHeader at)) l = Finished ((n + 1) / 2) l
+TextEnds n (Err r) l = l ≡ []
 
 ends_by : (f : Format) (rigor : Rigor) (room : ℕ) (s : List ℕ) → let t = text_by f rigor room s (opening_of s f) in TextEnds (length s) t.opened t.answers
 ends_by f rigor room s = go (opening_of s f)
@@ -190,10 +188,10 @@ ends_by f rigor room s = go (opening_of s f)
     from : (limits : Limits) (at : ℕ) → Finished ((length s + 1) / 2) (answers_from s f limits room (begin at))
     from limits at = let d = answers_finish s f limits room (begin at) in record { clauses = d.clauses; few = omega (arith, d.few); so = d.so }
 
-    go : (o : Opening) → TextEnds (length s) (text_by f rigor room s o).opened (text_by f rigor room s o).answers
-    go (opening.Header h at) = from (limits_of f rigor h) at
-    go (opening.NoHeader at) = from unlimited at
-    go (opening.Refused r) = refl
+    go : (o : Result Opening Refusal) → TextEnds (length s) (text_by f rigor room s o).opened (text_by f rigor room s o).answers
+    go (Ok (opening.Header h at)) = from (limits_of f rigor h) at
+    go (Ok (opening.NoHeader at)) = from unlimited at
+    go (Err r) = refl
 
 pub text_ends : (f : Format) (m : Mode) (room : ℕ) (s : List ℕ) → TextEnds (length s) (text f m room s).opened (text f m room s).answers
 unfolding text
@@ -208,10 +206,10 @@ AnswerWithin n (refused r so) = r.place ≤ n
 abbrev pub AllWithin : ℕ → List Answer → Type 0
 AllWithin n = Each (AnswerWithin n)
 
-abbrev pub OpeningWithin : ℕ → Opening → Type 0
-OpeningWithin n (opening.Header h at) = Unit {0}
-OpeningWithin n (opening.NoHeader at) = Unit {0}
-OpeningWithin n (opening.Refused r) = r.place ≤ n
+abbrev pub OpeningWithin : ℕ → Result Opening Refusal → Type 0
+OpeningWithin n (Ok (opening.Header h at)) = Unit {0}
+OpeningWithin n (Ok (opening.NoHeader at)) = Unit {0}
+OpeningWithin n (Err r) = r.place ≤ n
 
 -- What holds at a place after so many clauses, if it holds past the next clause, holds at every place.
 pub by_next : (s : List ℕ) (P : ℕ → ℕ → Type 0) → ((at count : ℕ) → ((e : ℕ) → to_come s e < to_come s at → P e (one_more count)) → P at count) → (at count : ℕ) → P at count
@@ -224,7 +222,7 @@ by_next s P step at count = go (suc (to_come s at)) at count (omega arith)
 module _ (s : List ℕ) (f : Format) (limits : Limits) (room : ℕ) where
   -- The answers from a place on, after so many clauses.
   abbrev pub answers_at : ℕ → ℕ → List Answer
-  answers_at at count = answers_from s f limits room (progress at count final.Open)
+  answers_at at count = answers_from s f limits room (progress at count None)
 
   -- One answer with its place, after so many clauses, and those that come after it.
   abbrev pub answer_then : ℕ → ℕ → Answer → List Answer
@@ -232,7 +230,7 @@ module _ (s : List ℕ) (f : Format) (limits : Limits) (room : ℕ) where
 
   pub answers_next : (at count : ℕ) → let d = next_clause s f limits room count at in answers_at at count ≡ answer_then count d.place d.answer
   unfolding turn answer_at
-  answers_next at count = answers_step s f limits room (progress at count final.Open)
+  answers_next at count = answers_step s f limits room (progress at count None)
 
   answers_within : (at count : ℕ) → at ≤ length s → AllWithin (length s) (answers_at at count)
   answers_within =
@@ -253,10 +251,10 @@ within_by f rigor room s = go (opening_of s f) (opening_opens s f)
     from_start : (limits : Limits) (at : ℕ) → at ≤ length s → AllWithin (length s) (answers_from s f limits room (begin at))
     from_start limits at h = answers_within s f limits room at 0 h
 
-    go : (o : Opening) → Opens s o → let t = text_by f rigor room s o in OpeningWithin (length s) t.opened × AllWithin (length s) t.answers
-    go (opening.Header h at) k = (tt, from_start (limits_of f rigor h) at k.0)
-    go (opening.NoHeader at) k = (tt, from_start unlimited at k)
-    go (opening.Refused r) k = (k, tt)
+    go : (o : Result Opening Refusal) → Opens s o → let t = text_by f rigor room s o in OpeningWithin (length s) t.opened × AllWithin (length s) t.answers
+    go (Ok (opening.Header h at)) k = (tt, from_start (limits_of f rigor h) at k.0)
+    go (Ok (opening.NoHeader at)) k = (tt, from_start unlimited at k)
+    go (Err r) k = (k, tt)
 
 pub text_within : (f : Format) (m : Mode) (room : ℕ) (s : List ℕ) → let t = text f m room s in OpeningWithin (length s) t.opened × AllWithin (length s) t.answers
 unfolding text

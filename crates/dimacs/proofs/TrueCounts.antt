@@ -1,4 +1,6 @@
 -- What is read under limits is within them, and what is read to its end has as many clauses as they count. Assumes nothing.
+use Rattle.std.specs.Prelude.{Option, None, Some, Result, Ok, Err}
+use Rattle.dimacs.specs.declared.Refusal.{Refusal}
 use Prim.Native.Nat.{ℕ, ◌+◌, ◌≤◌, ◌<◌, min}
 use mathlib.Core.Bool.{Bool}
 use mathlib.Core.List.{List, [], ◌∷◌, ◌++◌}
@@ -10,7 +12,8 @@ use lib.Dec.{leb, eqb}
 use lib.ListN.{length}
 use lib.IntN.{ℤ, nat_abs}
 use Rattle.dimacs.specs.Loop.{Step}
-use Rattle.dimacs.specs.Names.{Reason, refusal, number_of, ceiling, largest}
+use Rattle.dimacs.specs.Names.{refusal, number_of, ceiling, largest}
+use Rattle.dimacs.specs.declared.Reason.{Reason}
 use Rattle.dimacs.specs.Tokens.{unmoved, blanks, lines, Number, none, found, up_to, up_to_either_way, unsigned, braced, minus, braced_uint_at, int_at, end_of_line, line_ends}
 use Rattle.dimacs.specs.Rows.{Row, ends, closes, stops, read_by, Reading, reads, on_int, next_int, row}
 use Rattle.dimacs.specs.Clauses.{Literals, nothing, closed, stopped, on_row, next_row, literals, Answer, clause, ended, refused, says, instead, absent, Start, with_literals, without, start_by, start_at, closing, finish, clause_by, clause_at}
@@ -21,12 +24,8 @@ use Rattle.dimacs.specs.declared.Format.TheVariants.{Plain, Weighted, Grouped, W
 use Rattle.dimacs.specs.declared.Limits.{Limits}
 use Rattle.dimacs.specs.declared.Absence.{Absence}
 use Rattle.dimacs.specs.declared.Absence.TheVariants.{MayEnd, NoClause}
-use Rattle.dimacs.specs.declared.Instead.{Instead}
-use Rattle.dimacs.specs.declared.Instead.TheVariants.{Ended, Refused}
 use Rattle.dimacs.specs.declared.Int.{Int}
 use Rattle.dimacs.specs.declared.Int.TheVariants as int
-use Rattle.dimacs.specs.declared.EndOfLine.{EndOfLine}
-use Rattle.dimacs.specs.declared.EndOfLine.TheVariants as end
 use Rattle.dimacs.proofs.Tests.{tested, chosen}
 use Rattle.dimacs.proofs.Loops.{Leads}
 use Rattle.dimacs.proofs.Rows.{row_kept}
@@ -117,24 +116,24 @@ start_bound s Plain groups absence at = tt
 start_bound s Weighted groups absence at = any_group Weighted groups (λ _. tt) (start_at s Weighted groups absence at)
 start_bound s Grouped groups absence at = go (braced s at)
   where
-    go : (x : Number) → StartBound Grouped groups (start_by s (number_of Reason.group_too_big) absence at (up_to groups x))
+    go : (x : Number) → StartBound Grouped groups (start_by s (number_of Reason.GroupTooBig) absence at (up_to groups x))
     go none = tt
     go (found n e) = tested (leb n groups) (λ y. rw y (leb-true n groups y)) (λ y. rw y tt)
 start_bound s Weighted2022 groups absence at = any_group Weighted2022 groups (λ _. tt) (start_at s Weighted2022 groups absence at)
 
 module _ (s : List ℕ) (f : Format) (limits : Limits) (room : ℕ) where
-  instead_bound : (i : Instead) → ClauseBound f limits (instead i).answer
-  instead_bound (Ended e) = tt
-  instead_bound (Refused r) = tt
+  instead_bound : (i : Result ℕ Refusal) → ClauseBound f limits (instead i).answer
+  instead_bound (Ok e) = tt
+  instead_bound (Err r) = tt
 
   finish_bound : (extra at : ℕ) (x : Absence) → GroupWithin f limits.groups extra → (l : Literals) → LiteralsBound limits.literals l → ClauseBound f limits (finish s extra at x l).answer
   unfolding closing
   finish_bound extra at x g nothing h = instead_bound (absent s x at)
   finish_bound extra at x g (closed so e) h = go (end_of_line s e)
     where
-      go : (y : EndOfLine) → ClauseBound f limits (line_ends y (says (clause extra so)) (says (refused (refusal s Reason.line_end_expected e) so) e)).answer
-      go end.Missing = tt
-      go (end.Past n) = (g, h)
+      go : (y : Option ℕ) → ClauseBound f limits (line_ends y (says (clause extra so)) (says (refused (refusal s Reason.LineEndExpected e) so) e)).answer
+      go None = tt
+      go (Some n) = (g, h)
   finish_bound extra at x g (stopped r so) h = tt
 
   clause_bound : (absence : Absence) (at : ℕ) → ClauseBound f limits (clause_at s limits room f absence at).answer
@@ -166,9 +165,9 @@ module _ (s : List ℕ) (f : Format) (limits : Limits) (room : ℕ) where
       by ended b m h = h tt
       by (refused r so) b m h = tt
 
-      reached : limits.clauses ≤ count → (i : Instead) → AnswerBound f limits count (instead i).answer
-      reached h (Ended n) = inr h
-      reached h (Refused r) = tt
+      reached : limits.clauses ≤ count → (i : Result ℕ Refusal) → AnswerBound f limits count (instead i).answer
+      reached h (Ok n) = inr h
+      reached h (Err r) = tt
 
   -- Where the end is reached, each answer up to it is true.
   pub answers_true : (at count : ℕ) → ReachesEnd (answers_at s f limits room at count) → AnswersTrue f limits count (answers_at s f limits room at count)

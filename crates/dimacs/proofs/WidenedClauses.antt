@@ -1,4 +1,5 @@
 -- A clause, and the next clause, under limits and under ones that allow more. Assumes nothing.
+use Rattle.std.specs.Prelude.{Option, None, Some, Ok, Err}
 use Prim.Native.Nat.{ℕ, ◌≤◌}
 use mathlib.Core.List.{List}
 use mathlib.Core.Path.{◌≡◌, refl}
@@ -8,7 +9,8 @@ use borrow.Author.Tests.{eq-eqb, leb-true}
 use lib.Dec.{leb, eqb}
 use lib.ListN.{length}
 use lib.IntN.{ℤ}
-use Rattle.dimacs.specs.Names.{Reason, number_of, numbered, refusal, largest}
+use Rattle.dimacs.specs.Names.{number_of, numbered, refusal, largest}
+use Rattle.dimacs.specs.declared.Reason.{Reason}
 use Rattle.dimacs.specs.Tokens.{at_end, blanks, lines, uint_at, end_of_line, line_ends, braced_uint_at}
 use Rattle.dimacs.specs.Clauses.{Literals, nothing, closed, stopped, literals, Answer, clause, ended, refused, Answered, says, instead, absent, Start, with_literals, without, start_by, start_in2022, start_at, closing, finish, clause_by, clause_at}
 use Rattle.dimacs.specs.Texts.{next_clause}
@@ -17,11 +19,8 @@ use Rattle.dimacs.specs.declared.Format.TheVariants.{Plain, Weighted, Grouped, W
 use Rattle.dimacs.specs.declared.Limits.{Limits}
 use Rattle.dimacs.specs.declared.Absence.{Absence}
 use Rattle.dimacs.specs.declared.Absence.TheVariants.{MayEnd, NoClause, NoLiterals}
-use Rattle.dimacs.specs.declared.Instead.TheVariants.{Ended, Refused}
 use Rattle.dimacs.specs.declared.Uint.{Uint}
 use Rattle.dimacs.specs.declared.Uint.TheVariants as uint
-use Rattle.dimacs.specs.declared.EndOfLine.{EndOfLine}
-use Rattle.dimacs.specs.declared.EndOfLine.TheVariants as end
 use Rattle.dimacs.proofs.Tests.{tested, chosen}
 use Rattle.dimacs.proofs.Allows.{Allows}
 use Rattle.dimacs.proofs.Spans.{EndCloses, end_closes}
@@ -76,8 +75,8 @@ StartsAlike extra e x (without i) = ⊥
 -- A clause begins alike, or is refused where it begins.
 abbrev StartWidened : ℕ → Start → Start → Type 0
 StartWidened at (with_literals extra e x) y = StartsAlike extra e x y
-StartWidened at (without (Ended e)) y = y ≡ without (Ended e)
-StartWidened at (without (Refused r)) y = r.place ≤ at
+StartWidened at (without (Ok e)) y = y ≡ without (Ok e)
+StartWidened at (without (Err r)) y = r.place ≤ at
 
 module _ (s : List ℕ) where
   absent_widened : (x y : Absence) → AbsenceWidened x y → (at : ℕ) → Widened (instead (absent s x at)) (instead (absent s y at))
@@ -102,15 +101,15 @@ module _ (s : List ℕ) where
   unfolding numbered
   start_in_2022_widened x y h at =
       let u = uint_at s largest at in
-      starts_in_2022 s (StartWidened at) x y at (omega arith) (refl, refl, refl) (omega arith) (start_by_widened (number_of Reason.weight_too_big) x y h at u u (uint_itself u))
+      starts_in_2022 s (StartWidened at) x y at (omega arith) (refl, refl, refl) (omega arith) (start_by_widened (number_of Reason.WeightTooBig) x y h at u u (uint_itself u))
 
   start_widened : (f : Format) {narrow wide : ℕ} → narrow ≤ wide → (x y : Absence) → AbsenceWidened x y → (at : ℕ) → StartWidened at (start_at s f narrow x at) (start_at s f wide y at)
   unfolding start_at
   start_widened Plain g x y h at = (refl, refl, h)
   start_widened Weighted g x y h at =
-      let u = uint_at s largest at in start_by_widened (number_of Reason.weight_too_big) x y h at u u (uint_itself u)
+      let u = uint_at s largest at in start_by_widened (number_of Reason.WeightTooBig) x y h at u u (uint_itself u)
   start_widened Grouped {narrow} {wide} g x y h at =
-      start_by_widened (number_of Reason.group_too_big) x y h at (braced_uint_at s narrow at) (braced_uint_at s wide at) (group_widened s g at)
+      start_by_widened (number_of Reason.GroupTooBig) x y h at (braced_uint_at s narrow at) (braced_uint_at s wide at) (group_widened s g at)
   start_widened Weighted2022 g x y h at = start_in_2022_widened x y h at
 
   -- A clause whose literals close past a place ends past it, or is refused there.
@@ -118,10 +117,10 @@ module _ (s : List ℕ) where
   unfolding closing numbered
   closing_past from extra at so h = go (end_of_line s at) (end_closes s at)
     where
-      go : (x : EndOfLine) → EndCloses s at x
-          → let d = line_ends x (says (clause extra so)) (says (refused (refusal s Reason.line_end_expected at) so) at) in AnswerPast from d.place d.answer
-      go end.Missing c = h
-      go (end.Past e) c = omega (arith, c.on)
+      go : (x : Option ℕ) → EndCloses s at x
+          → let d = line_ends x (says (clause extra so)) (says (refused (refusal s Reason.LineEndExpected at) so) at) in AnswerPast from d.place d.answer
+      go None c = h
+      go (Some e) c = omega (arith, c.on)
 
   finish_widened : (extra at : ℕ) (x y : Absence) → AbsenceWidened x y → (l m : Literals) → LiteralsWidened l m → Widened (finish s extra at x l) (finish s extra at y m)
   finish_widened extra at x y h nothing m k = rw k (absent_widened x y h at)
@@ -144,8 +143,8 @@ module _ (s : List ℕ) {narrow wide : Limits} (a : Allows narrow wide) (room : 
           rw (k.0, k.1)
           (finish_widened s extra e i j k.2 (literals s narrow.literals room e) (literals s wide.literals room e) (literals_widened s a.literals room e))
       go (with_literals extra e i) (without j) k o = absurd k
-      go (without (Ended e)) q k o = rw k refl
-      go (without (Refused r)) q k o = onward_past s r.place at k (clause_by s wide room q) o
+      go (without (Ok e)) q k o = rw k refl
+      go (without (Err r)) q k o = onward_past s r.place at k (clause_by s wide room q) o
 
   -- The count is reached: at the end of the text both answer the end; elsewhere the narrow limits refuse a clause, and the wide ones read on.
   reached_widened : (at : ℕ) → Widened (instead (absent s MayEnd at)) (clause_at s wide room f MayEnd at)

@@ -1,5 +1,6 @@
 -- The texts on both sides of document 01, with what the definition says of each. Assumes nothing.
-use Rattle.std.specs.Prelude.{ℕ, ◌≡◌, refl, length, ℤ, pos, negsuc}
+use Rattle.std.specs.Prelude.{Option, None, Some}
+use Rattle.std.specs.Prelude.{ℕ, ◌≡◌, refl, length, ℤ, pos, negsuc, Result, Ok, Err}
 use Prim.Native.String.{String}
 use mathlib.Core.List.{List, [], ◌∷◌, ◌++◌, map, flat_map}
 use Rattle.dimacs.specs.Loop.{loop, said}
@@ -26,7 +27,7 @@ use Rattle.dimacs.specs.declared.Opening.{Opening}
 use Rattle.dimacs.specs.declared.Opening.TheVariants as opening
 use Rattle.dimacs.specs.declared.Refusal.{Refusal}
 use Rattle.dimacs.specs.declared.Verdict.{Verdict}
-use Rattle.dimacs.specs.declared.Verdict.TheVariants.{Yes, No, Unknown, None}
+use Rattle.dimacs.specs.declared.Verdict.TheVariants.{Yes, No, Unknown}
 
 -- A line of what is said of a text: its header's counts; a clause, with its weight or group or 0; a refusal's number, place and k, or its number, place, line and column; a log's verdict.
 pub data Line : Type 0 where
@@ -36,7 +37,7 @@ pub data Line : Type 0 where
   End : Line
   Refused : ℕ → ℕ → ℕ → Line
   Spotted : ℕ → ℕ → ℕ → ℕ → Line
-  Says : Verdict → List ℤ → Line
+  Says : Option Verdict → List ℤ → Line
 
 abbrev refused_line : Refusal → List ℤ → Line
 refused_line r so = Refused r.number r.place (length so)
@@ -46,10 +47,10 @@ answer_line (clause extra so) = Clause extra so
 answer_line ended = End
 answer_line (refused r so) = refused_line r so
 
-abbrev opening_lines : Opening → List Line → List Line
-opening_lines (opening.Header h at) rest = Header h.variables h.clauses h.third ∷ rest
-opening_lines (opening.NoHeader at) rest = NoHeader ∷ rest
-opening_lines (opening.Refused r) rest = refused_line r [] ∷ []
+abbrev opening_lines : Result Opening Refusal → List Line → List Line
+opening_lines (Ok (opening.Header h at)) rest = Header h.variables h.clauses h.third ∷ rest
+opening_lines (Ok (opening.NoHeader at)) rest = NoHeader ∷ rest
+opening_lines (Err r) rest = refused_line r [] ∷ []
 
 abbrev text_lines : Text → List Line
 text_lines t = opening_lines t.opened (map answer_line t.answers)
@@ -139,7 +140,7 @@ marked =
     ∷ strict_log "s SATISFIABLE \n" (Refused 5 13 0 ∷ [])
     ∷ strict_log "v 1 -2\n" (Refused 19 7 2 ∷ [])
     ∷ strict_log "s UNKNOWN\ns SATISFIABLE\n" (Refused 18 10 0 ∷ [])
-    ∷ lenient_log "s UNKNOWN\ns SATISFIABLE\n" (Says Unknown [] ∷ [])
+    ∷ lenient_log "s UNKNOWN\ns SATISFIABLE\n" (Says (Some Unknown) [] ∷ [])
     ∷ []
 
 pub marked_hold : Hold marked
@@ -213,10 +214,10 @@ readings_hold = refl
 -- What a log says, by its solution line or for want of one.
 abbrev pub verdicts : List Case
 verdicts =
-    strict_log "s SATISFIABLE\nv 1 0\n" (Says Yes (pos 1 ∷ []) ∷ [])
-    ∷ strict_log "s UNSATISFIABLE\n" (Says No [] ∷ [])
-    ∷ strict_log "s UNKNOWN" (Says Unknown [] ∷ [])
-    ∷ strict_log "v 1 0\ns UNKNOWN\n" (Says Unknown (pos 1 ∷ []) ∷ [])
+    strict_log "s SATISFIABLE\nv 1 0\n" (Says (Some Yes) (pos 1 ∷ []) ∷ [])
+    ∷ strict_log "s UNSATISFIABLE\n" (Says (Some No) [] ∷ [])
+    ∷ strict_log "s UNKNOWN" (Says (Some Unknown) [] ∷ [])
+    ∷ strict_log "v 1 0\ns UNKNOWN\n" (Says (Some Unknown) (pos 1 ∷ []) ∷ [])
     ∷ strict_log "" (Says None [] ∷ [])
     ∷ strict_log "c s UNKNOWN\n" (Says None [] ∷ [])
     ∷ strict_log "v 1 0\n" (Says None (pos 1 ∷ []) ∷ [])
@@ -252,9 +253,9 @@ returns =
     ++ by_line_ends "p cnf 1 1\r1 0" (Refused 5 9 0 ∷ []) (Header 1 1 0 ∷ Clause 0 (pos 1 ∷ []) ∷ End ∷ [])
     ++ by_line_ends "\r" (NoHeader ∷ Refused 9 0 0 ∷ []) (NoHeader ∷ End ∷ [])
     ++ by_line_ends "1 0\r\r2 0" (NoHeader ∷ Refused 5 3 1 ∷ []) (NoHeader ∷ Clause 0 (pos 1 ∷ []) ∷ Clause 0 (pos 2 ∷ []) ∷ End ∷ [])
-    ++ in_modes Log "s UNKNOWN\rs SATISFIABLE\r" (Refused 5 9 0 ∷ []) (Refused 5 9 0 ∷ []) (Refused 18 10 0 ∷ []) (Says Unknown [] ∷ [])
-    ++ in_modes Log "c x\rjunk\rs SATISFIABLE\r" (Says None [] ∷ []) (Says None [] ∷ []) (Refused 18 4 0 ∷ []) (Says Yes [] ∷ [])
-    ++ in_modes Log "s UNKNOWN\r\n" (Says Unknown [] ∷ []) (Says Unknown [] ∷ []) (Says Unknown [] ∷ []) (Says Unknown [] ∷ [])
+    ++ in_modes Log "s UNKNOWN\rs SATISFIABLE\r" (Refused 5 9 0 ∷ []) (Refused 5 9 0 ∷ []) (Refused 18 10 0 ∷ []) (Says (Some Unknown) [] ∷ [])
+    ++ in_modes Log "c x\rjunk\rs SATISFIABLE\r" (Says None [] ∷ []) (Says None [] ∷ []) (Refused 18 4 0 ∷ []) (Says (Some Yes) [] ∷ [])
+    ++ in_modes Log "s UNKNOWN\r\n" (Says (Some Unknown) [] ∷ []) (Says (Some Unknown) [] ∷ []) (Says (Some Unknown) [] ∷ []) (Says (Some Unknown) [] ∷ [])
     ++ in_modes (Formula Plain) "p cnf 1 1\r2 0\r" (Refused 5 9 0 ∷ []) (Refused 5 9 0 ∷ []) (Header 1 1 0 ∷ Refused 15 10 0 ∷ []) (Header 1 1 0 ∷ Clause 0 (pos 2 ∷ []) ∷ End ∷ [])
 
 pub returns_hold : Hold returns
@@ -302,10 +303,10 @@ answer_spots (clause extra so) = []
 answer_spots ended = []
 answer_spots (refused r so) = spotted r
 
-abbrev opening_spots : Opening → List Line → List Line
-opening_spots (opening.Header h at) rest = rest
-opening_spots (opening.NoHeader at) rest = rest
-opening_spots (opening.Refused r) rest = spotted r
+abbrev opening_spots : Result Opening Refusal → List Line → List Line
+opening_spots (Ok (opening.Header h at)) rest = rest
+opening_spots (Ok (opening.NoHeader at)) rest = rest
+opening_spots (Err r) rest = spotted r
 
 abbrev log_spots : LogAnswer → List Line
 log_spots (accepted v so) = []

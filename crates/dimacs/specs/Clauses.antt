@@ -1,7 +1,8 @@
 -- A clause of each format.
-use Rattle.std.specs.Prelude.{ℕ, suc, Bool, true, false, cond, List, [], length, eqb, ℤ}
+use Rattle.std.specs.Prelude.{ℕ, suc, Bool, true, false, cond, List, [], length, eqb, ℤ, Result, Ok, Err}
 use Rattle.dimacs.specs.Loop.{Step, again, answer, loop}
-use Rattle.dimacs.specs.Names.{Reason, number_of, numbered, refusal, largest, hard}
+use Rattle.dimacs.specs.Names.{number_of, numbered, refusal, largest, hard}
+use Rattle.dimacs.specs.declared.Reason.{Reason}
 use Rattle.dimacs.specs.Bytes.{bytes}
 use Rattle.dimacs.specs.Tokens.{unmoved, at_end, word, linebreaks, uint_at, braced_uint_at, end_of_line, line_ends}
 use Rattle.dimacs.specs.Rows.{Row, ends, closes, stops, Reading, reads, row}
@@ -11,8 +12,6 @@ use Rattle.dimacs.specs.declared.Format.TheVariants.{Plain, Weighted, Grouped, W
 use Rattle.dimacs.specs.declared.Refusal.{Refusal}
 use Rattle.dimacs.specs.declared.Absence.{Absence}
 use Rattle.dimacs.specs.declared.Absence.TheVariants.{MayEnd, NoClause, NoLiterals}
-use Rattle.dimacs.specs.declared.Instead.{Instead}
-use Rattle.dimacs.specs.declared.Instead.TheVariants.{Ended, Refused}
 use Rattle.dimacs.specs.declared.Uint.{Uint}
 use Rattle.dimacs.specs.declared.Uint.TheVariants as uint
 
@@ -31,8 +30,8 @@ module _ (s : List ℕ) (limit room : ℕ) where
   on_row held (ends at so) =
       let e = linebreaks s at in
       cond (eqb (length so) 0) (answer nothing)
-      (cond (eqb (length so) held) (answer (stopped (refusal s Reason.literal_expected_after_lines at) so))
-      (cond (unmoved at e) (answer (stopped (refusal s Reason.literal_expected at) so)) (again (reads e so))))
+      (cond (eqb (length so) held) (answer (stopped (refusal s Reason.LiteralExpectedAfterLines at) so))
+      (cond (unmoved at e) (answer (stopped (refusal s Reason.LiteralExpected at) so)) (again (reads e so))))
 
   -- One row, and the line ends after it.
   unfoldable pub next_row : Reading → Step Reading Literals
@@ -63,9 +62,9 @@ abbrev pub says : Answer → ℕ → Answered
 says a at = record { answer = a; place = at }
 
 -- What is answered where no clause stands, with no literals.
-abbrev pub instead : Instead → Answered
-instead (Ended at) = says ended at
-instead (Refused r) = says (refused r []) r.place
+abbrev pub instead : Result ℕ Refusal → Answered
+instead (Ok at) = says ended at
+instead (Err r) = says (refused r []) r.place
 
 -- Clauses of the 2022 form are hard or soft.
 abbrev pub has_hard : Format → Bool
@@ -78,7 +77,7 @@ has_hard Weighted2022 = true
 -- what is answered instead.
 pub data Start : Type 0 where
   with_literals : ℕ → ℕ → Absence → Start
-  without : Instead → Start
+  without : Result ℕ Refusal → Start
 
 -- A weight of 0.
 abbrev pub is_zero : Uint → Bool
@@ -88,10 +87,10 @@ is_zero uint.TooBig = false
 
 module _ (s : List ℕ) where
   -- Where no number stands: the end of the text if it may come there, else a refusal.
-  unfoldable pub absent : Absence → ℕ → Instead
-  absent MayEnd at = cond (at_end s at) (Ended at) (Refused (refusal s Reason.clause_expected at))
-  absent NoClause at = Refused (refusal s Reason.clause_expected at)
-  absent NoLiterals at = Refused (refusal s Reason.literals_expected at)
+  unfoldable pub absent : Absence → ℕ → Result ℕ Refusal
+  absent MayEnd at = cond (at_end s at) (Ok at) (Err (refusal s Reason.ClauseExpected at))
+  absent NoClause at = Err (refusal s Reason.ClauseExpected at)
+  absent NoLiterals at = Err (refusal s Reason.LiteralsExpected at)
 
   -- After a weight, a group or the word `h`, line ends and comments may come; then literals must.
   abbrev pub literals_after : ℕ → ℕ → Start
@@ -100,13 +99,13 @@ module _ (s : List ℕ) where
   -- By the weight or group at a place, which has a refusal number of its own where it is too big.
   abbrev pub start_by : ℕ → Absence → ℕ → Uint → Start
   start_by big absence at uint.Missing = without (absent absence at)
-  start_by big absence at uint.TooBig = without (Refused (numbered s big at))
+  start_by big absence at uint.TooBig = without (Err (numbered s big at))
   start_by big absence at (uint.Value extra next) = literals_after extra next
 
   -- By the weight of a soft clause of the 2022 form, which is not 0.
   abbrev pub soft_by : Absence → ℕ → Uint → Start
   soft_by absence at weight =
-      cond (is_zero weight) (without (Refused (refusal s Reason.weight_zero at))) (start_by (number_of Reason.weight_too_big) absence at weight)
+      cond (is_zero weight) (without (Err (refusal s Reason.WeightZero at))) (start_by (number_of Reason.WeightTooBig) absence at weight)
 
   -- How a clause of the 2022 form begins: a hard one with the word `h`, a soft one with its weight. The word `p` has a refusal of its own.
   unfoldable pub start_in2022 : Absence → ℕ → Start
@@ -115,18 +114,18 @@ module _ (s : List ℕ) where
       let h = word s (bytes "h") at in
       cond (unmoved at p)
       (cond (unmoved at h) (soft_by absence at (uint_at s largest at)) (literals_after hard h))
-      (without (Refused (refusal s Reason.header_not_expected at)))
+      (without (Err (refusal s Reason.HeaderNotExpected at)))
 
   -- How a clause begins: a plain one with its first number, others with a weight or with a group up to its limit, or as in the 2022 form.
   unfoldable pub start_at : Format → ℕ → Absence → ℕ → Start
   start_at Plain groups absence at = with_literals 0 at absence
-  start_at Weighted groups absence at = start_by (number_of Reason.weight_too_big) absence at (uint_at s largest at)
-  start_at Grouped groups absence at = start_by (number_of Reason.group_too_big) absence at (braced_uint_at s groups at)
+  start_at Weighted groups absence at = start_by (number_of Reason.WeightTooBig) absence at (uint_at s largest at)
+  start_at Grouped groups absence at = start_by (number_of Reason.GroupTooBig) absence at (braced_uint_at s groups at)
   start_at Weighted2022 groups absence at = start_in2022 absence at
 
   -- After the 0, a line end or the end of the text must stand on its line.
   unfoldable pub closing : ℕ → ℕ → List ℤ → Answered
-  closing extra at so = line_ends (end_of_line s at) (says (clause extra so)) (says (refused (refusal s Reason.line_end_expected at) so) at)
+  closing extra at so = line_ends (end_of_line s at) (says (clause extra so)) (says (refused (refusal s Reason.LineEndExpected at) so) at)
 
   -- How a clause ends, by its literals from a place on.
   abbrev pub finish : ℕ → ℕ → Absence → Literals → Answered

@@ -1,7 +1,9 @@
 -- The opening of a text of clauses: its header, if it has one, and the limits that the header sets.
-use Rattle.std.specs.Prelude.{ℕ, Bool, true, false, cond, List, [], eqb}
+use Rattle.std.specs.Prelude.{ℕ, Bool, true, false, cond, List, [], eqb, Result, Ok, Err}
+use Rattle.dimacs.specs.declared.Refusal.{Refusal}
 use Rattle.dimacs.specs.Bytes.{bytes}
-use Rattle.dimacs.specs.Names.{Reason, refusal, ceiling, largest}
+use Rattle.dimacs.specs.Names.{refusal, ceiling, largest}
+use Rattle.dimacs.specs.declared.Reason.{Reason}
 use Rattle.dimacs.specs.Tokens.{unmoved, blanks, lines, word, uint_at, end_of_line, line_ends}
 use Rattle.dimacs.specs.declared.Format.{Format}
 use Rattle.dimacs.specs.declared.Format.TheVariants.{Plain, Weighted, Grouped, Weighted2022}
@@ -41,43 +43,43 @@ header_of v c t = record { variables = v; clauses = c; third = t }
 
 module _ (s : List ℕ) where
   -- What follows a count; or it is refused, for one reason where none stands and for another where it is too big.
-  abbrev pub counted : Reason → Reason → ℕ → (ℕ → ℕ → Opening) → Uint → Opening
-  counted none big at then uint.Missing = opening.Refused (refusal s none at)
-  counted none big at then uint.TooBig = opening.Refused (refusal s big at)
+  abbrev pub counted : Reason → Reason → ℕ → (ℕ → ℕ → Result Opening Refusal) → Uint → Result Opening Refusal
+  counted none big at then uint.Missing = Err (refusal s none at)
+  counted none big at then uint.TooBig = Err (refusal s big at)
   counted none big at then (uint.Value n next) = then n next
 
   -- After the counts, a line end or the end of the text.
-  unfoldable pub header_end : Header → ℕ → Opening
-  header_end h at = line_ends (end_of_line s at) (opening.Header h) (opening.Refused (refusal s Reason.line_end_expected at))
+  unfoldable pub header_end : Header → ℕ → Result Opening Refusal
+  header_end h at = line_ends (end_of_line s at) (λ next. Ok (opening.Header h next)) (Err (refusal s Reason.LineEndExpected at))
 
   -- A third count, and what follows.
-  unfoldable pub third_there : ℕ → ℕ → ℕ → Opening
-  third_there v c at = counted Reason.third_count_expected Reason.third_count_too_big at (λ t. header_end (header_of v c t)) (uint_at s largest at)
+  unfoldable pub third_there : ℕ → ℕ → ℕ → Result Opening Refusal
+  third_there v c at = counted Reason.ThirdCountExpected Reason.ThirdCountTooBig at (λ t. header_end (header_of v c t)) (uint_at s largest at)
 
   -- The third count, if the format has one, and what follows.
-  unfoldable pub third_count : Format → ℕ → ℕ → ℕ → Opening
+  unfoldable pub third_count : Format → ℕ → ℕ → ℕ → Result Opening Refusal
   third_count f v c at = cond (has_third f) (third_there v c at) (header_end (header_of v c 0) at)
 
   -- The count of clauses, and what follows.
-  unfoldable pub clause_count : Format → ℕ → ℕ → Opening
-  clause_count f v at = counted Reason.clause_count_expected Reason.clause_count_too_big at (third_count f v) (uint_at s largest at)
+  unfoldable pub clause_count : Format → ℕ → ℕ → Result Opening Refusal
+  clause_count f v at = counted Reason.ClauseCountExpected Reason.ClauseCountTooBig at (third_count f v) (uint_at s largest at)
 
   -- The count of variables, and what follows.
-  unfoldable pub variable_count : Format → ℕ → Opening
-  variable_count f at = counted Reason.variable_count_expected Reason.variable_count_too_big at (clause_count f) (uint_at s ceiling at)
+  unfoldable pub variable_count : Format → ℕ → Result Opening Refusal
+  variable_count f at = counted Reason.VariableCountExpected Reason.VariableCountTooBig at (clause_count f) (uint_at s ceiling at)
 
   -- What follows `p`: the format's word, and the counts.
-  unfoldable pub after_p : Format → ℕ → Opening
+  unfoldable pub after_p : Format → ℕ → Result Opening Refusal
   after_p f at =
       let e = word s (format_word f) at in
-      cond (unmoved at e) (opening.Refused (refusal s Reason.format_word_expected at)) (variable_count f e)
+      cond (unmoved at e) (Err (refusal s Reason.FormatWordExpected at)) (variable_count f e)
 
   -- Blanks, comments and line ends are skipped. If the word `p` follows, the header must, in a format that has one.
-  unfoldable pub opening_of : Format → Opening
+  unfoldable pub opening_of : Format → Result Opening Refusal
   opening_of f =
       let at = lines s (blanks s 0) in
       let e = word s (bytes "p") at in
-      cond (has_header f) (cond (unmoved at e) (opening.NoHeader at) (after_p f e)) (opening.NoHeader at)
+      cond (has_header f) (cond (unmoved at e) (Ok (opening.NoHeader at)) (after_p f e)) (Ok (opening.NoHeader at))
 
 -- The limits where no count applies.
 abbrev pub unlimited : Limits

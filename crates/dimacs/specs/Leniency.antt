@@ -1,6 +1,6 @@
 -- A lenient reading never changes a strict one: what is promised of one text, and of one log, read both ways with the same room and the same rule of line ends.
-use Rattle.std.specs.Prelude.{ℕ, ◌≤◌, List, [], ◌∷◌, ◌++◌, ◌≡◌, ◌⊎◌, length, ℤ, nat_abs}
-use Rattle.std.proofs.Math.Option.{Option, some, none}
+use Rattle.std.specs.Prelude.{Option, None, Some}
+use Rattle.std.specs.Prelude.{ℕ, ◌≤◌, List, [], ◌∷◌, ◌++◌, ◌≡◌, ◌⊎◌, length, ℤ, nat_abs, Result, Ok, Err}
 use Rattle.dimacs.specs.Names.{in_mode}
 use Rattle.dimacs.specs.Header.{limits_of}
 use Rattle.dimacs.specs.Clauses.{Answer, clause, ended, refused}
@@ -67,20 +67,20 @@ TextsUnchanged = (f : Format) (rule : Ends) (room : ℕ) (s : List ℕ) → Unch
 
 -- A log that is accepted strictly is accepted leniently, with the same verdict and literals.
 abbrev pub LogsUnchanged : Type 0
-LogsUnchanged = (rule : Ends) (room : ℕ) (s : List ℕ) (v : Verdict) (so : List ℤ) → log_strictly rule room s ≡ accepted v so → log_leniently rule room s ≡ accepted v so
+LogsUnchanged = (rule : Ends) (room : ℕ) (s : List ℕ) (v : Option Verdict) (so : List ℤ) → log_strictly rule room s ≡ accepted v so → log_leniently rule room s ≡ accepted v so
 
 -- The refusal among the answers, if there is one.
 abbrev pub refusal_among : List Answer → Option Refusal
-refusal_among [] = none
+refusal_among [] = None
 refusal_among (clause extra so ∷ rest) = refusal_among rest
-refusal_among (ended ∷ rest) = none
-refusal_among (refused r so ∷ rest) = some r
+refusal_among (ended ∷ rest) = None
+refusal_among (refused r so ∷ rest) = Some r
 
 -- The refusal of a header that is refused, else that among the answers.
-abbrev pub refusal_by : Opening → List Answer → Option Refusal
-refusal_by (opening.Header h at) l = refusal_among l
-refusal_by (opening.NoHeader at) l = refusal_among l
-refusal_by (opening.Refused r) l = some r
+abbrev pub refusal_by : Result Opening Refusal → List Answer → Option Refusal
+refusal_by (Ok (opening.Header h at)) l = refusal_among l
+refusal_by (Ok (opening.NoHeader at)) l = refusal_among l
+refusal_by (Err r) l = Some r
 
 -- The refusal that a text meets, if it meets one.
 abbrev pub refusal_of : Text → Option Refusal
@@ -88,14 +88,14 @@ refusal_of t = refusal_by t.opened t.answers
 
 -- The refusal that a log meets, if it meets one.
 abbrev pub log_refusal : LogAnswer → Option Refusal
-log_refusal (accepted v so) = none
-log_refusal (refused_log r so) = some r
+log_refusal (accepted v so) = None
+log_refusal (refused_log r so) = Some r
 
 -- What the lenient reading refuses, the strict one refuses, at that place or before it.
 abbrev pub NoLater : Option Refusal → Option Refusal → Type 0
-NoLater strict none = Unit {0}
-NoLater none (some lenient) = ⊥
-NoLater (some strict) (some lenient) = strict.place ≤ lenient.place
+NoLater strict None = Unit {0}
+NoLater None (Some lenient) = ⊥
+NoLater (Some strict) (Some lenient) = strict.place ≤ lenient.place
 
 -- So it is for each text.
 abbrev pub TextsRefused : Type 0
@@ -131,10 +131,10 @@ pub record CountsTrue (f : Format) (h : Header) (clauses : List (ℕ × List ℤ
   pub number : (h.clauses ≡ 0) ⊎ (h.clauses ≡ length clauses)
 
 -- So they are of the clauses of a text, if it has a header.
-abbrev pub CountsTrueBy : Format → Opening → List Answer → Type 0
-CountsTrueBy f (opening.Header h at) l = CountsTrue f h (handed_out l)
-CountsTrueBy f (opening.NoHeader at) l = Unit {0}
-CountsTrueBy f (opening.Refused r) l = Unit {0}
+abbrev pub CountsTrueBy : Format → Result Opening Refusal → List Answer → Type 0
+CountsTrueBy f (Ok (opening.Header h at)) l = CountsTrue f h (handed_out l)
+CountsTrueBy f (Ok (opening.NoHeader at)) l = Unit {0}
+CountsTrueBy f (Err r) l = Unit {0}
 
 -- A text that is read to its end leniently, and whose counts are true, is read alike strictly.
 abbrev pub TrueCountsAlike : Type 0

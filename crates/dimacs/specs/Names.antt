@@ -1,5 +1,5 @@
 -- The numbers by which formats, modes and refusals go outside, and the bounds.
-use Rattle.std.specs.Prelude.{ℕ, ◌-◌, ◌^◌, List, cond, eqb}
+use Rattle.std.specs.Prelude.{ℕ, ◌-◌, ◌^◌, List, Option, Some, None, cond, eqb}
 use Rattle.dimacs.specs.Spots.{line_and_column, spot_of}
 use Rattle.dimacs.specs.declared.Format.TheVariants.{Plain, Weighted, Grouped, Weighted2022}
 use Rattle.dimacs.specs.declared.Mode.{Mode}
@@ -7,8 +7,10 @@ use Rattle.dimacs.specs.declared.Rigor.{Rigor}
 use Rattle.dimacs.specs.declared.Rigor.TheVariants.{Strict, Lenient}
 use Rattle.dimacs.specs.declared.Ends.{Ends}
 use Rattle.dimacs.specs.declared.Ends.TheVariants.{LineFeed, AlsoReturn}
+use Rattle.dimacs.specs.declared.Reason.{Reason}
+use Rattle.dimacs.specs.declared.Reason.TheVariants.{FormatWordExpected, VariableCountExpected, ClauseCountExpected, ThirdCountExpected, LineEndExpected, LiteralExpected, LiteralExpectedAfterLines, LiteralsExpected, ClauseExpected, VariableCountTooBig, ClauseCountTooBig, ThirdCountTooBig, WeightTooBig, GroupTooBig, LiteralTooBig, BufferFull, SolutionExpected, LogLineExpected, AssignmentOpen, TrayFull, PartOutsideArea, BufferTooShort, NothingWaits, TicketNotWaiting, TicketsUsedUp, FormatOrModeUnknown, LiteralNotWritable, OutputTooShort, WeightZero, HeaderNotExpected}
 use Rattle.dimacs.specs.declared.Kind.{Kind}
-use Rattle.dimacs.specs.declared.Kind.TheVariants.{Unknown, Clauses, Log}
+use Rattle.dimacs.specs.declared.Kind.TheVariants.{Clauses, Log}
 use Rattle.dimacs.specs.declared.Refusal.{Refusal}
 use Rattle.dimacs.specs.declared.Spot.{Spot}
 
@@ -44,58 +46,50 @@ places = 32
 abbrev pub in_mode : Rigor → Ends → Mode
 in_mode rigor rule = record { rigor = rigor; ends = rule }
 
--- What the number of a format names in a mode.
-unfoldable pub kind_in : Mode → ℕ → Kind
+-- What the number of a format names in a mode, if anything.
+unfoldable pub kind_in : Mode → ℕ → Option Kind
 kind_in m f =
-    cond (eqb f 0) (Clauses Plain m) (cond (eqb f 1) (Clauses Weighted m) (cond (eqb f 2) (Clauses Grouped m)
-    (cond (eqb f log_format) (Log m) (cond (eqb f 4) (Clauses Weighted2022 m) Unknown))))
+    cond (eqb f 0) (Some (Clauses Plain m)) (cond (eqb f 1) (Some (Clauses Weighted m)) (cond (eqb f 2) (Some (Clauses Grouped m))
+    (cond (eqb f log_format) (Some (Log m)) (cond (eqb f 4) (Some (Clauses Weighted2022 m)) None))))
 
--- What the numbers of a format and a mode name.
-unfoldable pub kind_of : ℕ → ℕ → Kind
+-- What the numbers of a format and a mode name, if anything.
+unfoldable pub kind_of : ℕ → ℕ → Option Kind
 kind_of f m =
     cond (eqb m 0) (kind_in (in_mode Strict LineFeed) f) (cond (eqb m 1) (kind_in (in_mode Lenient LineFeed) f)
-    (cond (eqb m 2) (kind_in (in_mode Strict AlsoReturn) f) (cond (eqb m 3) (kind_in (in_mode Lenient AlsoReturn) f) Unknown)))
-
--- Why something is refused.
-pub data Reason : Type 0 where
-  format_word_expected variable_count_expected clause_count_expected third_count_expected line_end_expected : Reason
-  literal_expected literal_expected_after_lines literals_expected clause_expected variable_count_too_big : Reason
-  clause_count_too_big third_count_too_big weight_too_big group_too_big literal_too_big buffer_full solution_expected : Reason
-  log_line_expected assignment_open tray_full part_outside_area buffer_too_short nothing_waits ticket_not_waiting : Reason
-  tickets_used_up format_or_mode_unknown literal_not_writable output_too_short weight_zero header_not_expected : Reason
+    (cond (eqb m 2) (kind_in (in_mode Strict AlsoReturn) f) (cond (eqb m 3) (kind_in (in_mode Lenient AlsoReturn) f) None)))
 
 -- The refusal numbers.
 abbrev pub number_of : Reason → ℕ
-number_of format_word_expected = 1  -- after `p`, not the format's word
-number_of variable_count_expected = 2  -- variable count expected
-number_of clause_count_expected = 3  -- clause count expected
-number_of third_count_expected = 4  -- third count expected
-number_of line_end_expected = 5  -- line end expected
-number_of literal_expected = 6  -- literal or 0 expected on a literal's line
-number_of literal_expected_after_lines = 7  -- the same after line ends
-number_of literals_expected = 8  -- literals expected after weight, group or `h`
-number_of clause_expected = 9  -- no clause, comment, line end or permitted end
-number_of variable_count_too_big = 10  -- variable count above the ceiling
-number_of clause_count_too_big = 11  -- clause count above 64 bits
-number_of third_count_too_big = 12  -- third count above 64 bits
-number_of weight_too_big = 13  -- weight above 64 bits
-number_of group_too_big = 14  -- group above its limit
-number_of literal_too_big = 15  -- literal beyond its limit either way
-number_of buffer_full = 16  -- non-zero literal in range, buffer full
-number_of solution_expected = 17  -- solution word expected
-number_of log_line_expected = 18  -- log line of no permitted kind
-number_of assignment_open = 19  -- log ends with an open assignment
-number_of tray_full = 20  -- tray: all its places are taken
-number_of part_outside_area = 21  -- tray: start plus length above the lent area's length
-number_of buffer_too_short = 22  -- tray: literal buffer shorter than its room
-number_of nothing_waits = 23  -- tray: nothing waits
-number_of ticket_not_waiting = 24  -- tray: ticket not waiting
-number_of tickets_used_up = 25  -- tray: 2^64 - 1 tickets given
-number_of format_or_mode_unknown = 26  -- unknown format or mode number, or a format the call does not take
-number_of literal_not_writable = 27  -- writer: literal is 0 or -2,147,483,648
-number_of output_too_short = 28  -- writer: output too short
-number_of weight_zero = 32  -- 2022 form: weight zero
-number_of header_not_expected = 33  -- 2022 form: the word `p` where a clause may start
+number_of FormatWordExpected = 1  -- after `p`, not the format's word
+number_of VariableCountExpected = 2  -- variable count expected
+number_of ClauseCountExpected = 3  -- clause count expected
+number_of ThirdCountExpected = 4  -- third count expected
+number_of LineEndExpected = 5  -- line end expected
+number_of LiteralExpected = 6  -- literal or 0 expected on a literal's line
+number_of LiteralExpectedAfterLines = 7  -- the same after line ends
+number_of LiteralsExpected = 8  -- literals expected after weight, group or `h`
+number_of ClauseExpected = 9  -- no clause, comment, line end or permitted end
+number_of VariableCountTooBig = 10  -- variable count above the ceiling
+number_of ClauseCountTooBig = 11  -- clause count above 64 bits
+number_of ThirdCountTooBig = 12  -- third count above 64 bits
+number_of WeightTooBig = 13  -- weight above 64 bits
+number_of GroupTooBig = 14  -- group above its limit
+number_of LiteralTooBig = 15  -- literal beyond its limit either way
+number_of BufferFull = 16  -- non-zero literal in range, buffer full
+number_of SolutionExpected = 17  -- solution word expected
+number_of LogLineExpected = 18  -- log line of no permitted kind
+number_of AssignmentOpen = 19  -- log ends with an open assignment
+number_of TrayFull = 20  -- tray: all its places are taken
+number_of PartOutsideArea = 21  -- tray: start plus length above the lent area's length
+number_of BufferTooShort = 22  -- tray: literal buffer shorter than its room
+number_of NothingWaits = 23  -- tray: nothing waits
+number_of TicketNotWaiting = 24  -- tray: ticket not waiting
+number_of TicketsUsedUp = 25  -- tray: 2^64 - 1 tickets given
+number_of FormatOrModeUnknown = 26  -- unknown format or mode number, or a format the call does not take
+number_of LiteralNotWritable = 27  -- writer: literal is 0 or -2,147,483,648
+number_of OutputTooShort = 28  -- writer: output too short
+number_of WeightZero = 32  -- 2022 form: weight zero
+number_of HeaderNotExpected = 33  -- 2022 form: the word `p` where a clause may start
 
 -- A refusal of the text s by its number, at a place in it, with the line and the column of that place.
 unfoldable pub numbered : List ℕ → ℕ → ℕ → Refusal

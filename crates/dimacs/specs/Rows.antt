@@ -1,7 +1,8 @@
 -- A row of literals: numbers side by side, with blanks alone between them.
 use Rattle.std.specs.Prelude.{ℕ, suc, cond, List, [], ◌∷◌, ◌++◌, length, leb, ℤ}
 use Rattle.dimacs.specs.Loop.{Step, again, answer, loop}
-use Rattle.dimacs.specs.Names.{Reason, refusal}
+use Rattle.dimacs.specs.Names.{refusal}
+use Rattle.dimacs.specs.declared.Reason.{Reason}
 use Rattle.dimacs.specs.Tokens.{int_at}
 use Rattle.dimacs.specs.declared.Refusal.{Refusal}
 use Rattle.dimacs.specs.declared.Int.{Int}
@@ -34,9 +35,9 @@ module _ (s : List ℕ) (limit room : ℕ) where
   abbrev pub on_int : Int → ℕ → List ℤ → Step Reading Row
   on_int int.Missing at so = answer (ends at so)
   on_int (int.Zero next) at so = answer (closes next so)
-  on_int int.TooBig at so = answer (stops (refusal s Reason.literal_too_big at) so)
+  on_int int.TooBig at so = answer (stops (refusal s Reason.LiteralTooBig at) so)
   on_int (int.Literal v next) at so =
-      cond (leb room (length so)) (answer (stops (refusal s Reason.buffer_full at) so)) (again (reads next (so ++ (v ∷ []))))
+      cond (leb room (length so)) (answer (stops (refusal s Reason.BufferFull at) so)) (again (reads next (so ++ (v ∷ []))))
 
   -- One number.
   unfoldable pub next_int : Reading → Step Reading Row

@@ -1,5 +1,6 @@
 -- How many of a text's first bytes settle what is answered of it, and when two texts agree on so many.
-use Rattle.std.specs.Prelude.{ℕ, zero, suc, ◌+◌, ◌-◌, max, cond, List, ◌≡◌, eqb, length, take}
+use Rattle.std.specs.Prelude.{ℕ, zero, suc, ◌+◌, ◌-◌, max, cond, List, ◌≡◌, eqb, length, take, Result, Ok, Err}
+use Rattle.dimacs.specs.declared.Refusal.{Refusal}
 use Rattle.dimacs.specs.Bytes.{LF, is_not_stop}
 use Rattle.dimacs.specs.Lined.{lined}
 use Rattle.dimacs.specs.Tokens.{past, byte_at}
@@ -41,10 +42,10 @@ module _ (s : List ℕ) where
   answer_seen a = answer_seen_by a.answer a.place
 
   -- How many bytes settle an opening: a header's closing, the two bytes that are no word `p`, or the word at a refusal's place.
-  abbrev pub opening_seen : Opening → ℕ
-  opening_seen (opening.Header h at) = line_seen at
-  opening_seen (opening.NoHeader at) = at + 2
-  opening_seen (opening.Refused r) = word_seen r.place
+  abbrev pub opening_seen : Result Opening Refusal → ℕ
+  opening_seen (Ok (opening.Header h at)) = line_seen at
+  opening_seen (Ok (opening.NoHeader at)) = at + 2
+  opening_seen (Err r) = word_seen r.place
 
 module _ (s : List ℕ) (f : Format) (limits : Limits) (room : ℕ) where
   -- How many bytes settle the next k answers: the most that settle one of them.
@@ -53,10 +54,10 @@ module _ (s : List ℕ) (f : Format) (limits : Limits) (room : ℕ) where
   answers_seen (suc k) p = let a = answer_at s f limits room p in max (answer_seen s a) (answers_seen k (settled p a))
 
 -- How many bytes settle an opening and the k answers after it.
-abbrev pub text_seen_by : Format → Rigor → ℕ → ℕ → List ℕ → Opening → ℕ
-text_seen_by f rigor room k s (opening.Header h at) = max (opening_seen s (opening.Header h at)) (answers_seen s f (limits_of f rigor h) room k (begin at))
-text_seen_by f rigor room k s (opening.NoHeader at) = max (opening_seen s (opening.NoHeader at)) (answers_seen s f unlimited room k (begin at))
-text_seen_by f rigor room k s (opening.Refused r) = opening_seen s (opening.Refused r)
+abbrev pub text_seen_by : Format → Rigor → ℕ → ℕ → List ℕ → Result Opening Refusal → ℕ
+text_seen_by f rigor room k s (Ok (opening.Header h at)) = max (opening_seen s (Ok (opening.Header h at))) (answers_seen s f (limits_of f rigor h) room k (begin at))
+text_seen_by f rigor room k s (Ok (opening.NoHeader at)) = max (opening_seen s (Ok (opening.NoHeader at))) (answers_seen s f unlimited room k (begin at))
+text_seen_by f rigor room k s (Err r) = opening_seen s (Err r)
 
 -- So many bytes of a text as it is read hang on so many of the text: where a CR alone ends a line, the byte after it tells whether it is alone.
 abbrev pub with_next : Ends → ℕ → ℕ

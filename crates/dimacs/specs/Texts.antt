@@ -1,5 +1,6 @@
 -- The whole of a text of clauses: its opening, and the answers one after the other.
-use Rattle.std.specs.Prelude.{ℕ, ◌+◌, cond, List, [], length, ltb, leb, eqb}
+use Rattle.std.specs.Prelude.{ℕ, ◌+◌, cond, List, [], length, ltb, leb, eqb, Option, None, Some, Result, Ok, Err}
+use Rattle.dimacs.specs.declared.Refusal.{Refusal}
 use Rattle.dimacs.specs.Loop.{Turn, on, last, said}
 use Rattle.dimacs.specs.Names.{largest}
 use Rattle.dimacs.specs.Lined.{lined}
@@ -14,11 +15,9 @@ use Rattle.dimacs.specs.declared.Opening.{Opening}
 use Rattle.dimacs.specs.declared.Opening.TheVariants as opening
 use Rattle.dimacs.specs.declared.Absence.TheVariants.{MayEnd, NoClause}
 use Rattle.dimacs.specs.declared.Progress.{Progress}
-use Rattle.dimacs.specs.declared.Final.{Final}
-use Rattle.dimacs.specs.declared.Final.TheVariants as final
 
 -- How far a text is read, by its three parts.
-abbrev pub progress : ℕ → ℕ → Final → Progress
+abbrev pub progress : ℕ → ℕ → Option (Result Unit Refusal) → Progress
 progress at count f = record { place = at; count = count; last = f }
 
 -- One clause more. A count is a 64-bit number and stays at the largest.
@@ -37,26 +36,26 @@ module _ (s : List ℕ) (f : Format) (limits : Limits) (room : ℕ) where
       (cond (leb limits.clauses count) (instead (absent s MayEnd e)) (clause_at s limits room f NoClause e))
 
   -- The end, once answered, is answered again. The first refusal is final and is repeated with no literals.
-  abbrev pub answer_by : Progress → Final → Answered
-  answer_by p final.Open = next_clause p.count p.place
-  answer_by p final.Ended = says ended p.place
-  answer_by p (final.Refused r) = says (refused r []) p.place
+  abbrev pub answer_by : Progress → Option (Result Unit Refusal) → Answered
+  answer_by p None = next_clause p.count p.place
+  answer_by p (Some (Ok u)) = says ended p.place
+  answer_by p (Some (Err r)) = says (refused r []) p.place
 
   -- The answer to the next call.
   unfoldable pub answer_at : Progress → Answered
   answer_at p = answer_by p p.last
 
 -- The end and a refusal are final.
-abbrev pub final_of : Answer → Final
-final_of (clause extra so) = final.Open
-final_of ended = final.Ended
-final_of (refused r so) = final.Refused r
+abbrev pub final_of : Answer → Option (Result Unit Refusal)
+final_of (clause extra so) = None
+final_of ended = Some (Ok tt)
+final_of (refused r so) = Some (Err r)
 
 -- How far a text is read after so many clauses and an answer at a place. A clause is counted.
-abbrev pub settled_by : ℕ → ℕ → Final → Progress
-settled_by count at final.Open = progress at (one_more count) final.Open
-settled_by count at final.Ended = progress at count final.Ended
-settled_by count at (final.Refused r) = progress at count (final.Refused r)
+abbrev pub settled_by : ℕ → ℕ → Option (Result Unit Refusal) → Progress
+settled_by count at None = progress at (one_more count) None
+settled_by count at (Some (Ok u)) = progress at count (Some (Ok u))
+settled_by count at (Some (Err r)) = progress at count (Some (Err r))
 
 -- How far a text is read after an answer.
 abbrev pub settled : Progress → Answered → Progress
@@ -79,20 +78,20 @@ module _ (s : List ℕ) (f : Format) (limits : Limits) (room : ℕ) where
 
 -- No clause is read yet.
 abbrev pub begin : ℕ → Progress
-begin at = progress at 0 final.Open
+begin at = progress at 0 None
 
 -- What is read of a text.
 pub record Text : Type 0 where
-  pub opened : Opening
+  pub opened : Result Opening Refusal
   pub answers : List Answer
 
 -- What is read of a text, by its opening.
-abbrev pub text_by : Format → Rigor → ℕ → List ℕ → Opening → Text
-text_by f rigor room s (opening.Header h at) =
-    record { opened = opening.Header h at; answers = answers_from s f (limits_of f rigor h) room (begin at) }
-text_by f rigor room s (opening.NoHeader at) =
-    record { opened = opening.NoHeader at; answers = answers_from s f unlimited room (begin at) }
-text_by f rigor room s (opening.Refused r) = record { opened = opening.Refused r; answers = [] }
+abbrev pub text_by : Format → Rigor → ℕ → List ℕ → Result Opening Refusal → Text
+text_by f rigor room s (Ok (opening.Header h at)) =
+    record { opened = Ok (opening.Header h at); answers = answers_from s f (limits_of f rigor h) room (begin at) }
+text_by f rigor room s (Ok (opening.NoHeader at)) =
+    record { opened = Ok (opening.NoHeader at); answers = answers_from s f unlimited room (begin at) }
+text_by f rigor room s (Err r) = record { opened = Err r; answers = [] }
 
 -- The text s, read in a format and a mode with room for so many literals in a clause.
 unfoldable pub text : Format → Mode → ℕ → List ℕ → Text

@@ -1,6 +1,6 @@
 -- Tokens: what stands at a place of a text. A place is an offset in the text, and may lie past its end, where no token stands.
 -- A token function answers the place past the token, or the place itself where there is none.
-use Rattle.std.specs.Prelude.{ℕ, suc, ◌+◌, ◌-◌, ◌*◌, min, Bool, true, false, cond, ◌&&◌, ◌||◌, List, [], ◌∷◌, length, get_or, take, drop, ltb, leb, eqb, ℤ, pos, neg_ℤ}
+use Rattle.std.specs.Prelude.{ℕ, suc, ◌+◌, ◌-◌, ◌*◌, min, Bool, true, false, cond, ◌&&◌, ◌||◌, List, [], ◌∷◌, length, get_or, take, drop, ltb, leb, eqb, ℤ, pos, neg_ℤ, Option, None, Some}
 use Prim.Native.Char.{code}
 use Rattle.dimacs.specs.Loop.{Step, again, answer, loop}
 use Rattle.dimacs.specs.Bytes.{bytes, LF, CR, is_blank, is_digit, is_stop, is_not_stop, is_not_lf}
@@ -9,8 +9,6 @@ use Rattle.dimacs.specs.declared.Uint.{Uint}
 use Rattle.dimacs.specs.declared.Uint.TheVariants as uint
 use Rattle.dimacs.specs.declared.Int.{Int}
 use Rattle.dimacs.specs.declared.Int.TheVariants as int
-use Rattle.dimacs.specs.declared.EndOfLine.{EndOfLine}
-use Rattle.dimacs.specs.declared.EndOfLine.TheVariants as end
 
 -- How many of the first elements pass a test.
 unfoldable pub run : {A : Type 0} → (A → Bool) → List A → ℕ
@@ -37,9 +35,9 @@ abbrev pub unmoved : ℕ → ℕ → Bool
 unmoved at e = eqb e at
 
 -- By what closes a line: if a line end or the end of the text does, the first, for the place past it; else the second.
-abbrev pub line_ends : {A : Type 0} → EndOfLine → (ℕ → A) → A → A
-line_ends (end.Past next) then otherwise = then next
-line_ends end.Missing then otherwise = otherwise
+abbrev pub line_ends : {A : Type 0} → Option ℕ → (ℕ → A) → A → A
+line_ends (Some next) then otherwise = then next
+line_ends None then otherwise = otherwise
 
 -- A number at a place: none, or its size and the place past it and the blanks after it.
 pub data Number : Type 0 where
@@ -83,8 +81,8 @@ module _ (s : List ℕ) where
   next_line at = let e = past is_not_lf s at in cond (ltb e (length s)) (e + 1) e
 
   -- What closes a line: a line end, or the end of the text.
-  unfoldable pub end_of_line : ℕ → EndOfLine
-  end_of_line at = cond (at_end at) (end.Past at) (cond (unmoved at (line_end at)) end.Missing (end.Past (line_end at)))
+  unfoldable pub end_of_line : ℕ → Option ℕ
+  end_of_line at = cond (at_end at) (Some at) (cond (unmoved at (line_end at)) None (Some (line_end at)))
 
   -- A fixed word stands with its exact bytes, whatever follows.
   unfoldable pub fixed : List ℕ → ℕ → ℕ

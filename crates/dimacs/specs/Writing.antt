@@ -3,7 +3,8 @@ use Rattle.std.specs.Prelude.{ℕ, suc, ◌+◌, ◌/◌, ◌%◌, Bool, cond, �
 use Prim.Native.Char.{code}
 use Rattle.dimacs.specs.Loop.{Step, again, answer, loop}
 use Rattle.dimacs.specs.Bytes.{bytes}
-use Rattle.dimacs.specs.Names.{Reason, call_refusal, ceiling, hard}
+use Rattle.dimacs.specs.Names.{call_refusal, ceiling, hard}
+use Rattle.dimacs.specs.declared.Reason.{Reason}
 use Rattle.dimacs.specs.Tokens.{run}
 use Rattle.dimacs.specs.Header.{has_header, has_third, format_word}
 use Rattle.dimacs.specs.Clauses.{has_hard}
@@ -69,14 +70,14 @@ pub data Written : Type 0 where
 
 -- A line is written if the output is long enough.
 abbrev pub fits : ℕ → List ℕ → Written
-fits room line = cond (leb (length line) room) (written line) (unwritten (call_refusal Reason.output_too_short 0))
+fits room line = cond (leb (length line) room) (written line) (unwritten (call_refusal Reason.OutputTooShort 0))
 
 -- A header is refused in a format that has none; then if its count of variables is above the ceiling, before the output's length is.
 unfoldable pub write_header : Format → Header → ℕ → Written
 write_header f h room =
     cond (has_header f)
-    (cond (leb h.variables ceiling) (fits room (header_line f h)) (unwritten (call_refusal Reason.variable_count_too_big 0)))
-    (unwritten (call_refusal Reason.format_or_mode_unknown 0))
+    (cond (leb h.variables ceiling) (fits room (header_line f h)) (unwritten (call_refusal Reason.VariableCountTooBig 0)))
+    (unwritten (call_refusal Reason.FormatOrModeUnknown 0))
 
 -- A literal is neither 0 nor beyond the ceiling.
 abbrev pub is_literal : ℤ → Bool
@@ -86,12 +87,12 @@ is_literal l = leb 1 (nat_abs l) && leb (nat_abs l) ceiling
 unfoldable pub write_line : Format → ℕ → List ℤ → ℕ → Written
 write_line f extra so room =
     let good = run is_literal so in
-    cond (leb (length so) good) (fits room (clause_line f extra so)) (unwritten (call_refusal Reason.literal_not_writable good))
+    cond (leb (length so) good) (fits room (clause_line f extra so)) (unwritten (call_refusal Reason.LiteralNotWritable good))
 
 -- A clause, in the 2022 form a soft one, whose weight is not 0.
 unfoldable pub write_clause : Format → ℕ → List ℤ → ℕ → Written
-write_clause f extra so room = cond (has_hard f && eqb extra 0) (unwritten (call_refusal Reason.weight_zero 0)) (write_line f extra so room)
+write_clause f extra so room = cond (has_hard f && eqb extra 0) (unwritten (call_refusal Reason.WeightZero 0)) (write_line f extra so room)
 
 -- A hard clause, in the format that has them.
 unfoldable pub write_hard_clause : Format → List ℤ → ℕ → Written
-write_hard_clause f so room = cond (has_hard f) (write_line f hard so room) (unwritten (call_refusal Reason.format_or_mode_unknown 0))
+write_hard_clause f so room = cond (has_hard f) (write_line f hard so room) (unwritten (call_refusal Reason.FormatOrModeUnknown 0))

@@ -5,7 +5,7 @@
 ghost use Rattle.std.specs.Prelude.{◌≡◌, ◌<◌, eqb, nat_abs, length};
 ghost use Rattle.dimacs.specs.Bytes.{LF};
 ghost use Rattle.dimacs.specs.Spots.{spot_of};
-ghost use Rattle.dimacs.specs.Names.{in_mode, kind_in, kind_of, numbered, call_numbered};
+ghost use Rattle.dimacs.specs.Names.{in_mode, kind_in, kind_of, number_of, refusal, call_refusal};
 ghost use Rattle.dimacs.specs.Lined.{lined, also_ends};
 ghost use Rattle.dimacs.specs.Tokens.{byte_at};
 ghost use Rattle.dimacs.specs.Header.{has_header, has_third};
@@ -27,7 +27,7 @@ pub const ROOM: usize = 1024;
 pub const PLACES: usize = 32;
 
 // A text of clauses is plain, or each clause has a weight, or each has a group, or each is hard or has a weight, as in the 2022 form.
-#[derive(Clone, Copy)]
+#[derive(Clone, Copy, Debug, PartialEq, Eq)]
 pub enum Format {
     Plain,
     Weighted,
@@ -39,52 +39,51 @@ pub enum Format {
 pub const LOG_FORMAT: u8 = 3;
 
 // A lenient reading applies no count of a header, and passes over log lines of no permitted kind.
-#[derive(Clone, Copy)]
+#[derive(Clone, Copy, Debug, PartialEq, Eq)]
 pub enum Rigor {
     Strict,
     Lenient,
 }
 
 // What ends a line: LF and CR LF; or these, and a CR that no LF follows.
-#[derive(Clone, Copy)]
+#[derive(Clone, Copy, Debug, PartialEq, Eq)]
 pub enum Ends {
     LineFeed,
     AlsoReturn,
 }
 
 // How a text is read.
-#[derive(Clone, Copy)]
+#[derive(Clone, Copy, Debug, PartialEq, Eq)]
 pub struct Mode {
     pub rigor: Rigor,
     pub ends: Ends,
 }
 
-// What the numbers of a format and a mode name: nothing, a text of clauses, or a log.
-#[derive(Clone, Copy)]
+// What the numbers of a format and a mode name: a text of clauses, or a log.
+#[derive(Clone, Copy, Debug, PartialEq, Eq)]
 pub enum Kind {
-    Unknown,
     Clauses(Format, Mode),
     Log(Mode),
 }
 
 #[tactic(auto, unfolding(crate::specs::Names::kind_in))]
-fn kind_in(format: u8, rigor: Rigor, ends: Ends) -> Kind
+fn kind_in(format: u8, rigor: Rigor, ends: Ends) -> Option<Kind>
     ensures { result ≡ kind_in (in_mode rigor ends) format }
 {
     let mode = Mode { rigor, ends };
     match format {
-        0 => Kind::Clauses(Format::Plain, mode),
-        1 => Kind::Clauses(Format::Weighted, mode),
-        2 => Kind::Clauses(Format::Grouped, mode),
-        LOG_FORMAT => Kind::Log(mode),
-        4 => Kind::Clauses(Format::Weighted2022, mode),
-        _ => Kind::Unknown,
+        0 => Some(Kind::Clauses(Format::Plain, mode)),
+        1 => Some(Kind::Clauses(Format::Weighted, mode)),
+        2 => Some(Kind::Clauses(Format::Grouped, mode)),
+        LOG_FORMAT => Some(Kind::Log(mode)),
+        4 => Some(Kind::Clauses(Format::Weighted2022, mode)),
+        _ => None,
     }
 }
 
-// What the numbers of a format and a mode name. Every call that takes such numbers asks here.
+// What the numbers of a format and a mode name, if anything. Every call that takes such numbers asks here.
 #[tactic(auto, unfolding(crate::specs::Names::kind_of))]
-pub fn kind_of(format: u8, mode: u8) -> Kind
+pub fn kind_of(format: u8, mode: u8) -> Option<Kind>
     ensures { result ≡ kind_of format mode }
 {
     match mode {
@@ -92,112 +91,81 @@ pub fn kind_of(format: u8, mode: u8) -> Kind
         1 => kind_in(format, Rigor::Lenient, Ends::LineFeed),
         2 => kind_in(format, Rigor::Strict, Ends::AlsoReturn),
         3 => kind_in(format, Rigor::Lenient, Ends::AlsoReturn),
-        _ => Kind::Unknown,
+        _ => None,
     }
 }
 
-// Whether texts of a format may have a header.
-pub fn has_header(format: Format) -> bool
-    ensures { result ≡ has_header format }
-{
-    match format {
-        Format::Plain => true,
-        Format::Weighted => true,
-        Format::Grouped => true,
-        Format::Weighted2022 => false,
+impl Format {
+    // Whether texts of the format may have a header.
+    pub fn has_header(self) -> bool
+        ensures { result ≡ has_header self }
+    {
+        self != Format::Weighted2022
     }
-}
 
-// Whether a header of a format has a third count.
-pub fn has_third(format: Format) -> bool
-    ensures { result ≡ has_third format }
-{
-    match format {
-        Format::Plain => false,
-        Format::Weighted => true,
-        Format::Grouped => true,
-        Format::Weighted2022 => false,
+    // Whether a header of the format has a third count.
+    pub fn has_third(self) -> bool
+        ensures { result ≡ has_third self }
+    {
+        matches!(self, Format::Weighted | Format::Grouped)
     }
-}
 
-// Whether clauses of a format are hard or soft.
-pub fn has_hard(format: Format) -> bool
-    ensures { result ≡ has_hard format }
-{
-    match format {
-        Format::Plain => false,
-        Format::Weighted => false,
-        Format::Grouped => false,
-        Format::Weighted2022 => true,
+    // Whether clauses of the format are hard or soft.
+    pub fn has_hard(self) -> bool
+        ensures { result ≡ has_hard self }
+    {
+        self == Format::Weighted2022
     }
 }
 
 // The weight with which a hard clause of the 2022 form is answered.
 pub const HARD: u64 = 0;
 
-// Refusals by number. Their meanings stand beside the same names in specs/Names.
-pub const FORMAT_WORD_EXPECTED: u8 = 1;
+// Why something is refused. Each reason has the number by which it goes outside; what it means stands beside it in specs/Names.
+#[derive(Clone, Copy, Debug, PartialEq, Eq)]
+pub enum Reason {
+    FormatWordExpected = 1,
+    VariableCountExpected = 2,
+    ClauseCountExpected = 3,
+    ThirdCountExpected = 4,
+    LineEndExpected = 5,
+    LiteralExpected = 6,
+    LiteralExpectedAfterLines = 7,
+    LiteralsExpected = 8,
+    ClauseExpected = 9,
+    VariableCountTooBig = 10,
+    ClauseCountTooBig = 11,
+    ThirdCountTooBig = 12,
+    WeightTooBig = 13,
+    GroupTooBig = 14,
+    LiteralTooBig = 15,
+    BufferFull = 16,
+    SolutionExpected = 17,
+    LogLineExpected = 18,
+    AssignmentOpen = 19,
+    TrayFull = 20,
+    PartOutsideArea = 21,
+    BufferTooShort = 22,
+    NothingWaits = 23,
+    TicketNotWaiting = 24,
+    TicketsUsedUp = 25,
+    FormatOrModeUnknown = 26,
+    LiteralNotWritable = 27,
+    OutputTooShort = 28,
+    WeightZero = 32,
+    HeaderNotExpected = 33,
+}
 
-pub const VARIABLE_COUNT_EXPECTED: u8 = 2;
+impl From<Reason> for u8 {
+    ghost from_gives = { λ reason number. number ≡ number_of reason };
 
-pub const CLAUSE_COUNT_EXPECTED: u8 = 3;
-
-pub const THIRD_COUNT_EXPECTED: u8 = 4;
-
-pub const LINE_END_EXPECTED: u8 = 5;
-
-pub const LITERAL_EXPECTED: u8 = 6;
-
-pub const LITERAL_EXPECTED_AFTER_LINES: u8 = 7;
-
-pub const LITERALS_EXPECTED: u8 = 8;
-
-pub const CLAUSE_EXPECTED: u8 = 9;
-
-pub const VARIABLE_COUNT_TOO_BIG: u8 = 10;
-
-pub const CLAUSE_COUNT_TOO_BIG: u8 = 11;
-
-pub const THIRD_COUNT_TOO_BIG: u8 = 12;
-
-pub const WEIGHT_TOO_BIG: u8 = 13;
-
-pub const GROUP_TOO_BIG: u8 = 14;
-
-pub const LITERAL_TOO_BIG: u8 = 15;
-
-pub const BUFFER_FULL: u8 = 16;
-
-pub const SOLUTION_EXPECTED: u8 = 17;
-
-pub const LOG_LINE_EXPECTED: u8 = 18;
-
-pub const ASSIGNMENT_OPEN: u8 = 19;
-
-pub const TRAY_FULL: u8 = 20;
-
-pub const PART_OUTSIDE_AREA: u8 = 21;
-
-pub const BUFFER_TOO_SHORT: u8 = 22;
-
-pub const NOTHING_WAITS: u8 = 23;
-
-pub const TICKET_NOT_WAITING: u8 = 24;
-
-pub const TICKETS_USED_UP: u8 = 25;
-
-pub const FORMAT_OR_MODE_UNKNOWN: u8 = 26;
-
-pub const LITERAL_NOT_WRITABLE: u8 = 27;
-
-pub const OUTPUT_TOO_SHORT: u8 = 28;
-
-pub const WEIGHT_ZERO: u8 = 32;
-
-pub const HEADER_NOT_EXPECTED: u8 = 33;
+    fn from(reason: Reason) -> u8 {
+        reason as u8
+    }
+}
 
 // A refusal: its number, the place at fault, and the line and the column of that place, or 0 and 0 where no text is at fault.
-#[derive(Clone, Copy)]
+#[derive(Clone, Copy, Debug, PartialEq, Eq)]
 pub struct Refusal {
     pub number: u8,
     pub place: usize,
@@ -206,7 +174,7 @@ pub struct Refusal {
 }
 
 // The line and the column of a place, both counted from 1.
-#[derive(Clone, Copy)]
+#[derive(Clone, Copy, Debug, PartialEq, Eq)]
 pub struct Spot {
     pub line: usize,
     pub column: usize,
@@ -265,12 +233,13 @@ fn spot_of(text: &[u8], ends: Ends, place: usize) -> Spot
 }
 
 // The refusal of a text at a place in it. Every refusal of a text is made here.
-pub fn refuse(text: &[u8], ends: Ends, number: u8, place: usize) -> Refusal
-    ensures { result ≡ numbered (lined ends text.now) number place }
+#[tactic(auto, unfolding(crate::specs::Names::numbered))]
+pub fn refuse(text: &[u8], ends: Ends, reason: Reason, place: usize) -> Refusal
+    ensures { result ≡ refusal (lined ends text.now) reason place }
 {
     let spot = spot_of(text, ends, place);
     Refusal {
-        number,
+        number: u8::from(reason),
         place,
         line: spot.line,
         column: spot.column,
@@ -278,11 +247,11 @@ pub fn refuse(text: &[u8], ends: Ends, number: u8, place: usize) -> Refusal
 }
 
 // The refusal of a call, where no text is at fault, at the index of the literal at fault, or at 0. Every such refusal is made here.
-pub fn refuse_call(number: u8, index: usize) -> Refusal
-    ensures { result ≡ call_numbered number index }
+pub fn refuse_call(reason: Reason, index: usize) -> Refusal
+    ensures { result ≡ call_refusal reason index }
 {
     Refusal {
-        number,
+        number: u8::from(reason),
         place: index,
         line: 0,
         column: 0,
@@ -293,15 +262,11 @@ pub fn refuse_call(number: u8, index: usize) -> Refusal
 pub fn magnitude(literal: i32) -> u64
     ensures { result ≡ nat_abs literal }
 {
-    let wide = literal as i64;
-    if wide < 0 {
-        return (0 - wide) as u64;
-    }
-    wide as u64
+    u64::from(literal.unsigned_abs())
 }
 
 // An unsigned number at a place: none, its value and the place past it and the blanks after it, or one above its limit.
-#[derive(Clone, Copy)]
+#[derive(Clone, Copy, Debug, PartialEq, Eq)]
 pub enum Uint {
     Missing,
     Value(u64, usize),
@@ -309,7 +274,7 @@ pub enum Uint {
 }
 
 // A signed number at a place: none; the 0 or a literal, and the place past it and the blanks after it; or one beyond its limit.
-#[derive(Clone, Copy)]
+#[derive(Clone, Copy, Debug, PartialEq, Eq)]
 pub enum Int {
     Missing,
     Zero(usize),
@@ -317,15 +282,8 @@ pub enum Int {
     TooBig,
 }
 
-// What may close a line, a line end or the end of the text: neither, or the place past it.
-#[derive(Clone, Copy)]
-pub enum EndOfLine {
-    Missing,
-    Past(usize),
-}
-
 // What a header says: the counts of variables and clauses, and the top weight or the count of groups, or 0 where the format has no third.
-#[derive(Clone, Copy)]
+#[derive(Clone, Copy, Debug, PartialEq, Eq)]
 pub struct Header {
     pub variables: u64,
     pub clauses: u64,
@@ -333,63 +291,46 @@ pub struct Header {
 }
 
 // The limits of a text: of literals either way, of groups, and of clauses, where 0 is no limit.
-#[derive(Clone, Copy)]
+#[derive(Clone, Copy, Debug, PartialEq, Eq)]
 pub struct Limits {
     pub literals: u32,
     pub groups: u64,
     pub clauses: u64,
 }
 
-// How a text of clauses opens: with a header or with none, and the place where the clauses begin; or with a header that is refused.
-#[derive(Clone, Copy)]
+// How a text of clauses opens: with a header or with none, and the place where the clauses begin.
+#[derive(Clone, Copy, Debug, PartialEq, Eq)]
 pub enum Opening {
     Header(Header, usize),
     NoHeader(usize),
-    Refused(Refusal),
 }
 
 // What it means that no number stands at a place: the text may end there; or there is no clause; or there are no literals after a weight, a group or the word `h`.
-#[derive(Clone, Copy)]
+#[derive(Clone, Copy, Debug, PartialEq, Eq)]
 pub enum Absence {
     MayEnd,
     NoClause,
     NoLiterals,
 }
 
-// What is answered where no clause stands: the end, at its place, or a refusal.
-#[derive(Clone, Copy)]
-pub enum Instead {
-    Ended(usize),
-    Refused(Refusal),
-}
-
-// The answer that later calls repeat, once there is one.
-#[derive(Clone, Copy)]
-pub enum Final {
-    Open,
-    Ended,
-    Refused(Refusal),
-}
-
-// How far a text of clauses is read: the next place, the clauses read, and the final answer once there is one.
-#[derive(Clone, Copy)]
+// How far a text of clauses is read: the next place, the clauses read, and the answer that later calls repeat, once there is one: the end, or a refusal.
+#[derive(Clone, Copy, Debug, PartialEq, Eq)]
 pub struct Progress {
     pub place: usize,
     pub count: u64,
-    pub last: Final,
+    pub last: Option<Result<(), Refusal>>,
 }
 
-// What a log says of its formula: satisfiable, unsatisfiable, or that the solver does not know; or nothing, as no solution line stands.
-#[derive(Clone, Copy)]
+// What a solution line says of a log's formula: satisfiable, unsatisfiable, or that the solver does not know.
+#[derive(Clone, Copy, Debug, PartialEq, Eq)]
 pub enum Verdict {
     Yes,
     No,
     Unknown,
-    None,
 }
 
 // A log's assignment has no line yet, or waits for its 0, or is closed by it.
-#[derive(Clone, Copy)]
+#[derive(Clone, Copy, Debug, PartialEq, Eq)]
 pub enum Assignment {
     Unbegun,
     Begun,
