@@ -9,6 +9,7 @@ use native.Mathlib.Omega.{arith}
 use borrow.Author.Tests.{eq-eqb, ne_eqb, eqb-true, eqb-false, leb-true, leb-false, ltb-true, ltb-false}
 use lib.Dec.{leb, eqb, ltb}
 use lib.ListN.{length, drop}
+use Rattle.std.specs.Prelude.{Option, None, Some}
 use Rattle.dimacs.specs.Loop.{Step}
 use Rattle.dimacs.specs.Bytes.{LF, CR, is_blank, is_digit, is_not_lf}
 use Rattle.dimacs.specs.Names.{ceiling}
@@ -16,8 +17,6 @@ use Rattle.dimacs.specs.Tokens.{past, begins, unmoved, Number, none, found, up_t
 use Rattle.dimacs.specs.Rows.{Row, ends, closes, stops, Reading, on_int, next_int, row}
 use Rattle.dimacs.specs.declared.Int.{Int}
 use Rattle.dimacs.specs.declared.Int.TheVariants as int
-use Rattle.dimacs.specs.declared.EndOfLine.{EndOfLine}
-use Rattle.dimacs.specs.declared.EndOfLine.TheVariants as end
 use Rattle.dimacs.proofs.Tests.{tested, chosen, unlike, both_right}
 use Rattle.dimacs.proofs.Bytes.{is_not_lf_lem, is_lf}
 use Rattle.dimacs.proofs.Loops.{Leads}
@@ -113,9 +112,9 @@ module _ (s : List ℕ) where
   row_on_line limit room r = row_kept s limit room (λ x. SameLine s r.at x.at) (RowOnLine r.at) (row_on limit room r.at) r (record { next = refl })
 
   -- What closes a line leads to the next.
-  abbrev pub EndNext : ℕ → EndOfLine → Type 0
-  EndNext at end.Missing = Unit {0}
-  EndNext at (end.Past e) = e ≡ next_line s at
+  abbrev pub EndNext : ℕ → Option ℕ → Type 0
+  EndNext at None = Unit {0}
+  EndNext at (Some e) = e ≡ next_line s at
 
   pub end_next : (at : ℕ) → EndNext at (end_of_line s at)
   unfolding end_of_line line_end

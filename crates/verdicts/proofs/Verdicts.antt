@@ -10,22 +10,22 @@ use borrow.Author.Tests.{eqb-true, eqb-false, leb-true, ltb-true, ltb-false}
 use lib.Dec.{eqb, ltb}
 use lib.ListN.{length, drop}
 use lib.IntN.{ℤ}
+use Rattle.std.specs.Prelude.{Option, None, Some}
 use Rattle.dimacs.specs.Loop.{Step, again, answer}
 use Rattle.dimacs.specs.Bytes.{bytes, is_not_lf}
-use Rattle.dimacs.specs.Names.{Reason, refusal, ceiling}
+use Rattle.dimacs.specs.Names.{refusal, ceiling}
+use Rattle.dimacs.specs.declared.Reason.{Reason}
 use Rattle.dimacs.specs.Lined.{lined}
 use Rattle.dimacs.specs.Tokens.{begins, unmoved, at_end, blanks, next_line, end_of_line, line_ends, fixed, strict_comment}
 use Rattle.dimacs.specs.Rows.{Row, ends, closes, stops, reads, row}
 use Rattle.dimacs.specs.Logs.{LogAnswer, accepted, refused_log, Log, log_at, log_begin, is_closed, is_said, line_read, values_read, value_line, solution_is, solution_line, log_end, other_line, log_line, log_from, log}
 use Rattle.dimacs.specs.declared.Assignment.{Assignment}
 use Rattle.dimacs.specs.declared.Assignment.TheVariants.{Unbegun, Begun, Closed}
-use Rattle.dimacs.specs.declared.EndOfLine.{EndOfLine}
-use Rattle.dimacs.specs.declared.EndOfLine.TheVariants as end
 use Rattle.dimacs.specs.declared.Mode.{Mode}
 use Rattle.dimacs.specs.declared.Rigor.{Rigor}
 use Rattle.dimacs.specs.declared.Rigor.TheVariants.{Strict, Lenient}
 use Rattle.dimacs.specs.declared.Verdict.{Verdict}
-use Rattle.dimacs.specs.declared.Verdict.TheVariants.{Yes, No, Unknown, None}
+use Rattle.dimacs.specs.declared.Verdict.TheVariants.{Yes, No, Unknown}
 use Rattle.dimacs.proofs.Tests.{tested, chosen, unlike, neither_left, neither_right}
 use Rattle.dimacs.proofs.Loops.{Leads}
 use Rattle.dimacs.proofs.Words.{fixed_is}
@@ -36,10 +36,8 @@ use Rattle.verdicts.proofs.Words.{other_word, words_differ, begins_first, begins
 use Rattle.verdicts.proofs.SameLine.{SameLine, then_on_line, same_next, blanks_on_line, fixed_on_line, RowOnLine, row_on_line, EndNext, end_next, next_opens, none_between}
 
 -- What the lines before a place say.
-abbrev SayBefore : List ℕ → ℕ → Verdict → Type 0
-SayBefore s n Yes = LinesSay s Yes
-SayBefore s n No = LinesSay s No
-SayBefore s n Unknown = LinesSay s Unknown
+abbrev SayBefore : List ℕ → ℕ → Option Verdict → Type 0
+SayBefore s n (Some v) = LinesSay s (Some v)
 SayBefore s n None = NoneBefore s n
 
 -- A log is read line by line, and its verdict so far is what the lines before say.
@@ -58,25 +56,23 @@ LineSaid s = Leads (Reached s) (LogSaid s)
 
 module _ (s : List ℕ) where
   -- A line that does not begin with `s ` says nothing, and after one that does no other is heard.
-  abbrev Silent : ℕ → Verdict → Type 0
+  abbrev Silent : ℕ → Option Verdict → Type 0
   Silent at v = v ≡ None → begins (bytes "s ") (drop at s) ≡ false
 
-  say_on : (at : ℕ) (v : Verdict) → Silent at v → SayBefore s at v → SayBefore s (next_line s at) v
-  say_on at Yes h t = t
-  say_on at No h t = t
-  say_on at Unknown h t = t
+  say_on : (at : ℕ) (v : Option Verdict) → Silent at v → SayBefore s at v → SayBefore s (next_line s at) v
+  say_on at (Some v) h t = t
   say_on at None h t =
       λ i k o. tested (ltb i at) (λ y. t i (ltb-true i at y) o)
       (λ y. tested (eqb i at) (λ z. rw (eqb-true i at z) (h refl))
       (λ z. absurd (none_between s at i (omega (arith, ltb-false i at y, eqb-false i at z)) k o)))
 
   -- A line that is closed leads to the next.
-  line_read_said : (at e : ℕ) (v : Verdict) (a : Assignment) (so : List ℤ) → SameLine s at e → ((end_of_line s e ≡ end.Missing → ⊥) → SayBefore s (next_line s at) v) → LineSaid s (line_read s e v a so)
+  line_read_said : (at e : ℕ) (v : Option Verdict) (a : Assignment) (so : List ℤ) → SameLine s at e → ((end_of_line s e ≡ None → ⊥) → SayBefore s (next_line s at) v) → LineSaid s (line_read s e v a so)
   line_read_said at e v a so p say = go (end_of_line s e) refl (end_next s e)
     where
-      go : (x : EndOfLine) → end_of_line s e ≡ x → EndNext s e x → LineSaid s (line_ends x (λ next. again (log_at next v a so)) (answer (refused_log (refusal s Reason.line_end_expected e) so)))
-      go end.Missing c q = tt
-      go (end.Past n) c q =
+      go : (x : Option ℕ) → end_of_line s e ≡ x → EndNext s e x → LineSaid s (line_ends x (λ next. again (log_at next v a so)) (answer (refused_log (refusal s Reason.LineEndExpected e) so)))
+      go None c q = tt
+      go (Some n) c q =
           let z = q ∙ same_next p in
           rw z (record { place = next_opens s at; said = say (λ m. let f : ◌≡◌ {A = ℕ} 0 1 = cc in omega arith) })
 
@@ -96,19 +92,19 @@ module _ (s : List ℕ) where
 
   module _ (at : ℕ) (l : Log) (here : LineAt s at) (none : NoneBefore s at) (s-is : begins (bytes "s ") (drop at s) ≡ true) where
     -- The first solution line, by its word.
-    first_is : (w : List ℕ) → begins w (drop (at + 2) s) ≡ true → (end_of_line s (at + 2 + length w) ≡ end.Missing → ⊥) → FirstIs s (bytes "s " ++ w)
+    first_is : (w : List ℕ) → begins w (drop (at + 2) s) ≡ true → (end_of_line s (at + 2 + length w) ≡ None → ⊥) → FirstIs s (bytes "s " ++ w)
     first_is w h c =
         let i : at + length (bytes "s " ++ w) ≡ at + 2 + length w = omega arith in
         record { at = at; line = here; stands = begins_both (bytes "s ") w s at s-is h; closed = rw i c; first = none }
 
-    solution_is_said : (v : Verdict) (w : List ℕ) → Passes is_not_lf w → (FirstIs s (bytes "s " ++ w) → SayBefore s (next_line s at) v) → (otherwise : Step Log LogAnswer) → LineSaid s otherwise
+    solution_is_said : (v : Verdict) (w : List ℕ) → Passes is_not_lf w → (FirstIs s (bytes "s " ++ w) → SayBefore s (next_line s at) (Some v)) → (otherwise : Step Log LogAnswer) → LineSaid s otherwise
         → LineSaid s (solution_is s v w (at + 2) l otherwise)
     solution_is_said v w o say otherwise h =
         let e = fixed s w (at + 2) in
         chosen (LineSaid s) (unmoved (at + 2) e) (λ _. h)
         (λ y.
         let b = fixed_stands s w (at + 2) y in
-        line_read_said at e v l.assignment l.so (then_on_line p (fixed_on_line s w o (at + 2))) (λ c. say (first_is w b (rw (fixed_is w s (at + 2) b) at c))))
+        line_read_said at e (Some v) l.assignment l.so (then_on_line p (fixed_on_line s w o (at + 2))) (λ c. say (first_is w b (rw (fixed_is w s (at + 2) b) at c))))
       where
         p : SameLine s at (at + 2)
         p = record { next = begins_run is_not_lf (bytes "s ") s at (refl, (refl, tt)) s-is }
@@ -125,25 +121,21 @@ module _ (s : List ℕ) where
         satisfiable = (refl, (refl, (refl, (refl, (refl, (refl, (refl, (refl, (refl, (refl, (refl, tt)))))))))))
 
   -- The verdict that the end of the text finds.
-  log_end_said : (at : ℕ) (v : Verdict) (so : List ℤ) (a : Assignment) → LinesSay s v → LogSaid s (log_end s at v so a)
+  log_end_said : (at : ℕ) (v : Option Verdict) (so : List ℤ) (a : Assignment) → LinesSay s v → LogSaid s (log_end s at v so a)
   log_end_said at v so Unbegun t = t
   log_end_said at v so Begun t = tt
   log_end_said at v so Closed t = t
 
-  say_at_end : (at : ℕ) (v : Verdict) → length s ≤ at → SayBefore s at v → LinesSay s v
-  say_at_end at Yes h t = t
-  say_at_end at No h t = t
-  say_at_end at Unknown h t = t
+  say_at_end : (at : ℕ) (v : Option Verdict) → length s ≤ at → SayBefore s at v → LinesSay s v
+  say_at_end at (Some v) h t = t
   say_at_end at None h t = λ i k o. t i (omega arith) o
 
   other_line_said : (rigor : Rigor) (l : Log) → SayBefore s (next_line s l.at) l.verdict → LineSaid s (other_line s rigor l)
   other_line_said Strict l t = tt
   other_line_said Lenient l t = record { place = next_opens s l.at; said = t }
 
-unsaid : (v : Verdict) → is_said v ≡ false → v ≡ None
-unsaid Yes h = unlike h
-unsaid No h = unlike h
-unsaid Unknown h = unlike h
+unsaid : (v : Option Verdict) → is_said v ≡ false → v ≡ None
+unsaid (Some v) h = unlike h
 unsaid None h = refl
 
 module _ (s : List ℕ) (rigor : Rigor) (room : ℕ) where
@@ -193,7 +185,7 @@ module _ (s : List ℕ) (rigor : Rigor) (room : ℕ) where
   lines_said = log_kept s rigor room (Reached s) (LogSaid s) line_said log_begin (record { place = inl (inl refl); said = λ i h o. absurd (omega arith) })
 
 -- The verdict of an accepted log is what its lines say, as they are read.
-pub lines_say_verdict : (s : List ℕ) (m : Mode) (room : ℕ) {v : Verdict} {so : List ℤ} → log s m room ≡ accepted v so → LinesSay (lined m.ends s) v
+pub lines_say_verdict : (s : List ℕ) (m : Mode) (room : ℕ) {v : Option Verdict} {so : List ℤ} → log s m room ≡ accepted v so → LinesSay (lined m.ends s) v
 unfolding log
 lines_say_verdict s m room e = subst (LogSaid (lined m.ends s)) e (lines_said (lined m.ends s) m.rigor room)
 
@@ -215,20 +207,20 @@ module _ (s : List ℕ) where
   first_not_none w f none = omega (arith, none_earlier w f (length s) none, stands_within s (bytes "s " ++ w) f.at (omega arith) f.stands)
 
   -- The lines of a log say one verdict.
-  pub one_verdict : (v w : Verdict) → LinesSay s v → LinesSay s w → v ≡ w
-  one_verdict Yes Yes p q = refl
-  one_verdict Yes No p q = absurd (firsts_differ [] 83 85 _ _ (λ e. omega arith) p q)
-  one_verdict Yes Unknown p q = absurd (firsts_differ [] 83 85 _ _ (λ e. omega arith) p q)
-  one_verdict Yes None p q = absurd (first_not_none _ p q)
-  one_verdict No Yes p q = absurd (firsts_differ [] 85 83 _ _ (λ e. omega arith) p q)
-  one_verdict No No p q = refl
-  one_verdict No Unknown p q = absurd (firsts_differ (bytes "UN") 83 75 _ _ (λ e. omega arith) p q)
-  one_verdict No None p q = absurd (first_not_none _ p q)
-  one_verdict Unknown Yes p q = absurd (firsts_differ [] 85 83 _ _ (λ e. omega arith) p q)
-  one_verdict Unknown No p q = absurd (firsts_differ (bytes "UN") 75 83 _ _ (λ e. omega arith) p q)
-  one_verdict Unknown Unknown p q = refl
-  one_verdict Unknown None p q = absurd (first_not_none _ p q)
-  one_verdict None Yes p q = absurd (first_not_none _ q p)
-  one_verdict None No p q = absurd (first_not_none _ q p)
-  one_verdict None Unknown p q = absurd (first_not_none _ q p)
+  pub one_verdict : (v w : Option Verdict) → LinesSay s v → LinesSay s w → v ≡ w
+  one_verdict (Some Yes) (Some Yes) p q = refl
+  one_verdict (Some Yes) (Some No) p q = absurd (firsts_differ [] 83 85 _ _ (λ e. omega arith) p q)
+  one_verdict (Some Yes) (Some Unknown) p q = absurd (firsts_differ [] 83 85 _ _ (λ e. omega arith) p q)
+  one_verdict (Some Yes) None p q = absurd (first_not_none _ p q)
+  one_verdict (Some No) (Some Yes) p q = absurd (firsts_differ [] 85 83 _ _ (λ e. omega arith) p q)
+  one_verdict (Some No) (Some No) p q = refl
+  one_verdict (Some No) (Some Unknown) p q = absurd (firsts_differ (bytes "UN") 83 75 _ _ (λ e. omega arith) p q)
+  one_verdict (Some No) None p q = absurd (first_not_none _ p q)
+  one_verdict (Some Unknown) (Some Yes) p q = absurd (firsts_differ [] 85 83 _ _ (λ e. omega arith) p q)
+  one_verdict (Some Unknown) (Some No) p q = absurd (firsts_differ (bytes "UN") 75 83 _ _ (λ e. omega arith) p q)
+  one_verdict (Some Unknown) (Some Unknown) p q = refl
+  one_verdict (Some Unknown) None p q = absurd (first_not_none _ p q)
+  one_verdict None (Some Yes) p q = absurd (first_not_none _ q p)
+  one_verdict None (Some No) p q = absurd (first_not_none _ q p)
+  one_verdict None (Some Unknown) p q = absurd (first_not_none _ q p)
   one_verdict None None p q = refl

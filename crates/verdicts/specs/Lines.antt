@@ -1,10 +1,9 @@
 -- What the lines of a log say.
-use Rattle.std.specs.Prelude.{ℕ, ◌+◌, ◌-◌, ◌<◌, true, false, List, ◌⊎◌, ◌≡◌, length, drop}
+use Rattle.std.specs.Prelude.{ℕ, ◌+◌, ◌-◌, ◌<◌, true, false, List, ◌⊎◌, ◌≡◌, length, drop, Option, None, Some}
 use Rattle.dimacs.specs.Bytes.{bytes, LF}
 use Rattle.dimacs.specs.Tokens.{begins, byte_at, end_of_line}
-use Rattle.dimacs.specs.declared.EndOfLine.TheVariants as end
 use Rattle.dimacs.specs.declared.Verdict.{Verdict}
-use Rattle.dimacs.specs.declared.Verdict.TheVariants.{Yes, No, Unknown, None}
+use Rattle.dimacs.specs.declared.Verdict.TheVariants.{Yes, No, Unknown}
 
 -- A line begins where the text does, and past each LF.
 abbrev pub LineAt : List ℕ → ℕ → Type 0
@@ -19,12 +18,12 @@ pub record FirstIs (s w : List ℕ) : Type 0 where
   pub at : ℕ
   pub line : LineAt s at
   pub stands : begins w (drop at s) ≡ true
-  pub closed : end_of_line s (at + length w) ≡ end.Missing → ⊥
+  pub closed : end_of_line s (at + length w) ≡ None → ⊥
   pub first : NoneBefore s at
 
 -- The lines of a log say a verdict: the first that begins with `s ` has its word, or none begins so.
-abbrev pub LinesSay : List ℕ → Verdict → Type 0
-LinesSay s Yes = FirstIs s (bytes "s SATISFIABLE")
-LinesSay s No = FirstIs s (bytes "s UNSATISFIABLE")
-LinesSay s Unknown = FirstIs s (bytes "s UNKNOWN")
+abbrev pub LinesSay : List ℕ → Option Verdict → Type 0
+LinesSay s (Some Yes) = FirstIs s (bytes "s SATISFIABLE")
+LinesSay s (Some No) = FirstIs s (bytes "s UNSATISFIABLE")
+LinesSay s (Some Unknown) = FirstIs s (bytes "s UNKNOWN")
 LinesSay s None = NoneBefore s (length s)
