@@ -11,6 +11,7 @@ use Rattle.dimacs.specs.declared.Opening.TheVariants.{NoHeader, Refused}
 use Rattle.dimacs.specs.declared.Opening.TheVariants as opening
 use Rattle.dimacs.specs.declared.Refusal.{Refusal}
 use Rattle.pages.specs.Printed.{printed_number, printed_literals}
+use Rattle.lines.specs.declared.Words.{Words}
 
 -- A number after a word and a space.
 abbrev pub printed_label : List ℕ → ℕ → List ℕ
@@ -39,20 +40,19 @@ printed_clause f extra so = bytes "clause" ++ printed_lead f extra ++ printed_li
 abbrev pub printed_placed_refusal : Refusal → List ℕ → List ℕ
 printed_placed_refusal r place_word = printed_label (bytes "refused") r.number ++ printed_label place_word r.place
 
--- A refusal's line and its column, each after a word.
-abbrev pub printed_spot : Refusal → List ℕ → List ℕ → List ℕ
-printed_spot r line_word column_word = printed_label line_word r.line ++ printed_label column_word r.column
+-- A refusal's line and its column, each after its word.
+abbrev pub printed_spot : Refusal → Words → List ℕ
+printed_spot r w = printed_label w.line.now r.line ++ printed_label w.column.now r.column
 
--- A refusal's number, and its place, k, its line and its column, each after a word.
-abbrev pub printed_refusal : Refusal → ℕ → List ℕ → List ℕ → List ℕ → List ℕ → List ℕ
-printed_refusal r k place_word count_word line_word column_word =
-    printed_placed_refusal r place_word ++ printed_label count_word k ++ printed_spot r line_word column_word
+-- A refusal's number, and its place, k, its line and its column, each after its word.
+abbrev pub printed_refusal : Refusal → ℕ → Words → List ℕ
+printed_refusal r k w = printed_placed_refusal r w.place.now ++ printed_label w.count.now k ++ printed_spot r w
 
--- How a text opens; the four words are those of a refusal, whose k is 0.
-abbrev pub printed_opening : Opening → Format → List ℕ → List ℕ → List ℕ → List ℕ → List ℕ
-printed_opening (opening.Header h _) f place_word count_word line_word column_word = printed_header f h
-printed_opening (NoHeader _) f place_word count_word line_word column_word = bytes "header none"
-printed_opening (Refused r) f place_word count_word line_word column_word = printed_refusal r 0 place_word count_word line_word column_word
+-- How a text opens; the words are those of a refusal, whose k is 0.
+abbrev pub printed_opening : Opening → Format → Words → List ℕ
+printed_opening (opening.Header h _) f w = printed_header f h
+printed_opening (NoHeader _) f w = bytes "header none"
+printed_opening (Refused r) f w = printed_refusal r 0 w
 
 -- The number of a case.
 abbrev pub printed_case : ℕ → List ℕ

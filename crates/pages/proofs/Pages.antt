@@ -4,11 +4,12 @@ use mathlib.Core.List.{List, [], ◌∷◌, ◌++◌, append_assoc, append-nil, 
 use mathlib.Core.Path.{◌≡◌, refl, ap, sym, ◌∙◌}
 use native.Mathlib.Numerals.{add-one}
 use native.Mathlib.Omega.{arith}
-use lib.ListN.{length, get_or, set, take, length-take}
+use lib.ListN.{length, get_or, take, length-take}
 use lib.Seq.{take-suc, take_all, take-nil, take_at, sets-eq, length-take-le}
 use Rattle.decimals.specs.Pieces.{PutAt, if_room}
 use Rattle.decimals.proofs.Pieces.{one_piece, put_nothing, put_then, put_keeps_length, puts_whole}
-use Rattle.pages.specs.Pages.{Lays}
+use Rattle.pages.specs.Pages.{Lays, Laid}
+use Rattle.pages.specs.declared.Page.{Page}
 
 -- So many of two lists are so many of the first, and what is left of them of the second.
 take-append : {A : Type 0} (n : ℕ) (p q : List A) → take n (p ++ q) ≡ take n p ++ take (n - length p) q
@@ -29,22 +30,8 @@ lay_then {at} {p} {q} {old} {mid} {new} {i} {r} h k =
 pub one_laying : {at : ℕ} {p old n₁ n₂ : List ℕ} {r₁ r₂ : ℕ} → Lays at p old n₁ r₁ → Lays at p old n₂ r₂ → (r₁ ≡ r₂) × (n₁ ≡ n₂)
 one_laying a b = one_piece a.puts b.puts
 
-pub lay_keeps_length : {at : ℕ} {p old new : List ℕ} {r : ℕ} → Lays at p old new r → length new ≡ length old
-lay_keeps_length h = put_keeps_length h.puts
-
 pub lay_nothing : (at : ℕ) (old : List ℕ) → Lays at [] old old at
 lay_nothing at old = record { puts = rw (take-nil (length old - at)) (put_nothing at old) }
-
--- One byte is laid where the page goes on, and none where it has ended.
-pub lay_byte : (at b : ℕ) (old : List ℕ) → at < length old → Lays at (b ∷ []) old (set old at b) (at + 1)
-lay_byte at b old h =
-    let whole : take (length old - at) (b ∷ []) ≡ b ∷ [] = take_all (length old - at) (b ∷ []) (omega arith) in
-    record { puts = rw whole (record { past = refl; output = refl }) }
-
-pub lay_past : (at : ℕ) (p old : List ℕ) → length old ≤ at → Lays at p old old at
-lay_past at p old h =
-    let none : length old - at ≡ 0 = omega arith in
-    record { puts = rw none (put_nothing at old) }
 
 -- A piece stands at the front of a buffer, and its length is told.
 pub record Stands (piece buffer : List ℕ) (long : ℕ) : Type 0 where
@@ -98,19 +85,23 @@ unfolding flat_map
 flat_bytes [] = refl
 flat_bytes (b ∷ w) = ap (λ r. b ∷ r) (flat_bytes w)
 
+-- One piece laid, and then another.
+pub laid_then : {p q : List ℕ} {old mid new : Page} → Laid p old mid → Laid q mid new → Laid (p ++ q) old new
+laid_then h k = record { same_page = k.same_page ∙ h.same_page; lays = lay_then h.lays k.lays }
+
+pub laid_nothing : (page : Page) → Laid [] page page
+laid_nothing page = record { same_page = refl; lays = lay_nothing page.at page.bytes.now }
+
 -- The first elements of a list are laid, each as its piece.
-pub record LaidSome {A : Type 0} (f : A → List ℕ) (at : ℕ) (l : List A) (old page : List ℕ) (past i : ℕ) : Type 0 where
-  pub lays : Lays at (flat_map f (take i l)) old page past
+pub record LaidSome {A : Type 0} (f : A → List ℕ) (l : List A) (old page : Page) (i : ℕ) : Type 0 where
+  pub laid : Laid (flat_map f (take i l)) old page
 
-pub some_none : {A : Type 0} (f : A → List ℕ) (at : ℕ) (l : List A) (old : List ℕ) → LaidSome f at l old old at 0
-some_none f at l old = record { lays = rw (flat_none f) (lay_nothing at old) }
+pub some_none : {A : Type 0} (f : A → List ℕ) (l : List A) (old : Page) → LaidSome f l old old 0
+some_none f l old = record { laid = rw (flat_none f) (laid_nothing old) }
 
-module _ {A : Type 0} {f : A → List ℕ} {at : ℕ} {l : List A} {old page : List ℕ} {past i : ℕ} (h : LaidSome f at l old page past i) where
-  pub some_long : length page ≡ length old
-  some_long = lay_keeps_length h.lays
+module _ {A : Type 0} {f : A → List ℕ} {l : List A} {old page : Page} {i : ℕ} (h : LaidSome f l old page i) where
+  pub some_more : {new : Page} (d : A) → i < length l → Laid (f (get_or l i d)) page new → LaidSome f l old new (i + 1)
+  some_more d k n = record { laid = rw (flat_next f l i d k) (laid_then h.laid n) }
 
-  pub some_more : {new : List ℕ} {r : ℕ} (d : A) → i < length l → Lays past (f (get_or l i d)) page new r → LaidSome f at l old new r (i + 1)
-  some_more d k n = record { lays = rw (flat_next f l i d k) (lay_then h.lays n) }
-
-  pub some_all : length l ≤ i → Lays at (flat_map f l) old page past
-  some_all k = rw (take_all i l k) at h.lays
+  pub some_all : length l ≤ i → Laid (flat_map f l) old page
+  some_all k = rw (take_all i l k) at h.laid

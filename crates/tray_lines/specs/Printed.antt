@@ -1,4 +1,4 @@
--- The words for what a turn tells a job. The four words at the end of each are those of a refusal, before its place, k, its line and its column.
+-- The words for what a turn tells a job. The words at the end of each are those of a refusal, before its place, k, its line and its column.
 use Rattle.std.specs.Prelude.{ℕ, List, take, ℤ}
 use Rattle.dimacs.specs.Bytes.{bytes}
 use Rattle.dimacs.specs.declared.Format.{Format}
@@ -7,14 +7,15 @@ use Rattle.clause.specs.declared.Next.TheVariants.{Clause, Ended, Refused}
 use Rattle.service.specs.declared.Said.{Said}
 use Rattle.service.specs.declared.Said.TheVariants as saying
 use Rattle.lines.specs.Printed.{printed_clause, printed_refusal, printed_opening}
+use Rattle.lines.specs.declared.Words.{Words}
 
 -- An answer of the reader, whose literals are the first of the buffer.
-abbrev pub printed_next : Next → Format → List ℤ → List ℕ → List ℕ → List ℕ → List ℕ → List ℕ
-printed_next (Clause extra count) f lits placeWord countWord lineWord columnWord = printed_clause f extra (take count lits)
-printed_next Ended f lits placeWord countWord lineWord columnWord = bytes "end"
-printed_next (Refused r count) f lits placeWord countWord lineWord columnWord = printed_refusal r count placeWord countWord lineWord columnWord
+abbrev pub printed_next : Next → Format → List ℤ → Words → List ℕ
+printed_next (Clause extra count) f lits w = printed_clause f extra (take count lits)
+printed_next Ended f lits w = bytes "end"
+printed_next (Refused r count) f lits w = printed_refusal r count w
 
 -- How a text opens, or an answer of the reader.
-abbrev pub printed_said : Said → Format → List ℤ → List ℕ → List ℕ → List ℕ → List ℕ → List ℕ
-printed_said (saying.Opening o) f lits placeWord countWord lineWord columnWord = printed_opening o f placeWord countWord lineWord columnWord
-printed_said (saying.Next n) f lits placeWord countWord lineWord columnWord = printed_next n f lits placeWord countWord lineWord columnWord
+abbrev pub printed_said : Said → Format → List ℤ → Words → List ℕ
+printed_said (saying.Opening o) f lits w = printed_opening o f w
+printed_said (saying.Next n) f lits w = printed_next n f lits w

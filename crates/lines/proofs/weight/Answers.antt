@@ -1,6 +1,6 @@
 -- `lines::weight` meets its contract: the number, and the colon behind it. Assumes nothing.
-use Rattle.pages.proofs.Pages.{lay_then}
+use Rattle.pages.proofs.Pages.{laid_then}
 use Rattle.lines.proofs.weight.Goals as goal
 
 pub returns : goal.returns
-returns c = lay_then c.number-past.ensures c.byte.ensures
+returns c = laid_then c.number.ensures c.byte.ensures
