@@ -6,47 +6,53 @@ ghost use Rattle.dimacs.specs.Lined.{lined};
 ghost use Rattle.dimacs.specs.Rows.{reads, row};
 ghost use Rattle.rows.specs.Answers.{ReadsRow};
 
-use dimacs::{BUFFER_FULL, Ends, Int, LITERAL_TOO_BIG, Refusal, refuse};
+use dimacs::{Ends, Int, Reason, Refusal, refuse};
 
-// What a row comes to, each with how many literals the buffer holds.
-#[derive(Clone, Copy)]
+// What a row comes to that is not refused, with how many literals the buffer holds.
+#[derive(Clone, Copy, Debug, PartialEq, Eq)]
 pub enum Row {
     // It ends at a place where no number stands.
     Ends { place: usize, count: usize },
     // Its 0 closes it; the place is past the 0 and the blanks after it.
     Closes { place: usize, count: usize },
-    Stops { refusal: Refusal, count: usize },
+}
+
+// A refusal, and how many literals before it the buffer holds.
+#[derive(Clone, Copy, Debug, PartialEq, Eq)]
+pub struct Stopped {
+    pub refusal: Refusal,
+    pub count: usize,
 }
 
 // The row from a place on, after `held` literals of the buffer, or after all where it has not so many.
-pub fn ints(text: &[u8], ends: Ends, at: usize, limit: u32, held: usize, lits: &mut [i32]) -> Row
+pub fn ints(
+    text: &[u8],
+    ends: Ends,
+    at: usize,
+    limit: u32,
+    held: usize,
+    lits: &mut [i32],
+) -> Result<Row, Stopped>
     ensures { ReadsRow (row (lined ends text.now) limit (length lits.old) (reads at (take held lits.old))) lits.old lits.new result }
 {
     let mut place = at;
-    let mut count = held;
-    if lits.len() < held {
-        count = lits.len();
-    }
+    let mut count = held.min(lits.len());
     loop {
         match numeral::int(text, place, limit) {
-            Int::Missing => {
-                return Row::Ends { place, count };
-            }
-            Int::Zero(next) => {
-                return Row::Closes { place: next, count };
-            }
+            Int::Missing => return Ok(Row::Ends { place, count }),
+            Int::Zero(next) => return Ok(Row::Closes { place: next, count }),
             Int::TooBig => {
-                return Row::Stops {
-                    refusal: refuse(text, ends, LITERAL_TOO_BIG, place),
+                return Err(Stopped {
+                    refusal: refuse(text, ends, Reason::LiteralTooBig, place),
                     count,
-                };
+                });
             }
             Int::Literal(v, next) => {
                 if lits.len() <= count {
-                    return Row::Stops {
-                        refusal: refuse(text, ends, BUFFER_FULL, place),
+                    return Err(Stopped {
+                        refusal: refuse(text, ends, Reason::BufferFull, place),
                         count,
-                    };
+                    });
                 }
                 lits[count] = v;
                 count += 1;

@@ -5,18 +5,18 @@ use mir.Val.{to_z, of_z}
 use Rattle.dimacs.proofs.LinedTokens.{int_lined}
 use Rattle.dimacs.proofs.Rows.{row_ends, row_closes, row_too_big, row_full, row_takes, takes_falls}
 use Rattle.dimacs.proofs.Buffer.{kept_full, kept_room}
-use Rattle.rows.proofs.Buffer.{row_so_far_start, row_so_far_full, row_so_far_ends, row_so_far_closes, row_so_far_stops, row_so_far_puts}
+use Rattle.rows.proofs.Buffer.{row_so_far_begin, row_so_far_ends, row_so_far_closes, row_so_far_stops, row_so_far_puts}
 use borrow.Author.Rules.{rules}
 use native.Mathlib.Omega.{arith}
 use Rattle.rows.proofs.ints.Goals as goal
-use Rattle.rows.proofs.ints.Goals.{Else-lits-count, else-lits-held, then-lits-held}
+use Rattle.rows.proofs.ints.Goals.{Else-lits-count}
 
 -- The literal as the machine reads it back.
 literal_back : (c : Else-lits-count) → to_z w32 (of_z w32 c.in-Literal.v) ≡ c.in-Literal.v
 literal_back c = search rules
 
 pub loop-next-init : goal.loop-next-init
-loop-next-init c = (elim c.if-lits-held.branch [ then-lits-held w ↦ row_so_far_full _ _ (omega arith) (omega arith) | else-lits-held w ↦ row_so_far_start _ _ (omega arith) (omega arith) ])
+loop-next-init c = row_so_far_begin _ _ c.min-count.ensures
 
 pub returns-in-Missing : goal.returns-in-Missing
 returns-in-Missing c = row_so_far_ends c.loop-next.invariant (row_ends _ _ _ _ _ (int_lined _ _ _ _ ∙ sym c.int.ensures ∙ c.in-Missing.is))
