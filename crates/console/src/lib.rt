@@ -17,35 +17,33 @@ pub fn print<W: Write>(out: &mut W, line: &[u8]) -> bool
     out.write_all(line).is_ok()
 }
 
-// What came of the bytes that were asked for.
-#[derive(Clone, Copy)]
-pub enum Taken {
-    // All of them.
-    Whole,
-    // So many, fewer than were asked for, and then the input ended.
+// Why not all of the bytes that were asked for came.
+#[derive(Clone, Copy, Debug, PartialEq, Eq)]
+pub enum Shortfall {
+    // So many came, fewer than were asked for, and then the input ended.
     Part(usize),
     // A read failed.
     Failed,
 }
 
-// Reads until the buffer is full, the input ends or a read fails.
-pub fn take<R: Read>(input: &mut R, buf: &mut [u8]) -> Taken
+// Reads until the buffer is full, the input ends or a read fails. By `read`, since `read_exact` does not tell how many bytes came.
+pub fn take<R: Read>(input: &mut R, buf: &mut [u8]) -> Result<(), Shortfall>
     ensures told { Takes (length buf.old) result }
     ensures bytes { Fills (R.remaining input.old) (R.remaining input.new) buf.new result }
 {
-    let mut done: usize = 0;
+    let mut done = 0;
     while done < buf.len() {
         match input.read(&mut buf[done..]) {
-            Ok(0) => return Taken::Part(done),
+            Ok(0) => return Err(Shortfall::Part(done)),
             Ok(n) => done += n,
-            Err(_) => return Taken::Failed,
+            Err(_) => return Err(Shortfall::Failed),
         }
     }
-    Taken::Whole
+    Ok(())
 }
 
 // Passes over at most 4,096 bytes.
-fn skip_few<R: Read>(input: &mut R, few: usize) -> Taken
+fn skip_few<R: Read>(input: &mut R, few: usize) -> Result<(), Shortfall>
     requires { few ≤ 4096 }
     ensures told { Takes few result }
     ensures bytes { Passes few (R.remaining input.old) (R.remaining input.new) result }
@@ -55,32 +53,32 @@ fn skip_few<R: Read>(input: &mut R, few: usize) -> Taken
 }
 
 // Passes over so many bytes.
-pub fn skip<R: Read>(input: &mut R, length: usize) -> Taken
+pub fn skip<R: Read>(input: &mut R, length: usize) -> Result<(), Shortfall>
     ensures told { Takes length result }
     ensures bytes { Passes length (R.remaining input.old) (R.remaining input.new) result }
 {
     let mut left = length;
     while 0 < left {
-        let few = frame::smaller(left, 4096);
+        let few = left.min(4096);
         match skip_few(input, few) {
-            Taken::Whole => left -= few,
-            Taken::Part(got) => return Taken::Part(length - left + got),
-            Taken::Failed => return Taken::Failed,
+            Ok(()) => left -= few,
+            Err(Shortfall::Part(got)) => return Err(Shortfall::Part(length - left + got)),
+            Err(Shortfall::Failed) => return Err(Shortfall::Failed),
         }
     }
-    Taken::Whole
+    Ok(())
 }
 
 // What did not come whole is told, and nothing follows it.
-pub fn stop<W: Write>(out: &mut W, taken: Taken) -> bool
+pub fn stop<W: Write>(out: &mut W, taken: Result<(), Shortfall>) -> bool
     ensures { result ≡ false }
 {
     match taken {
-        Taken::Whole => {}
-        Taken::Part(_) => {
+        Ok(()) => {}
+        Err(Shortfall::Part(_)) => {
             print(out, b"cut\n");
         }
-        Taken::Failed => {
+        Err(Shortfall::Failed) => {
             print(out, b"unreadable\n");
         }
     }
