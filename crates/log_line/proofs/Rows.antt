@@ -4,8 +4,10 @@ use mathlib.Core.List.{List}
 use mathlib.Core.Path.{◌≡◌, refl, sym, ◌∙◌, subst}
 use lib.ListN.{length, replicate, length-replicate}
 use lib.IntN.{ℤ, pos}
+use Rattle.std.specs.Prelude.{Option, None, Some, Result, Ok, Err}
 use Rattle.dimacs.specs.Loop.{Step, again, answer}
-use Rattle.dimacs.specs.Names.{Reason, refusal}
+use Rattle.dimacs.specs.Names.{refusal}
+use Rattle.dimacs.specs.declared.Reason.{Reason}
 use Rattle.dimacs.specs.Tokens.{end_of_line, line_ends}
 use Rattle.dimacs.specs.Rows as row
 use Rattle.dimacs.specs.Rows.{read_by}
@@ -13,17 +15,13 @@ use Rattle.dimacs.specs.Logs as def
 use Rattle.dimacs.specs.declared.Verdict.{Verdict}
 use Rattle.dimacs.specs.declared.Assignment.{Assignment}
 use Rattle.dimacs.specs.declared.Assignment.TheVariants.{Begun, Closed}
-use Rattle.dimacs.specs.declared.EndOfLine.{EndOfLine}
-use Rattle.dimacs.specs.declared.EndOfLine.TheVariants as end
 use Rattle.dimacs.specs.Buffers.{laid}
 use Rattle.rows.specs.Answers.{row_of, ReadsRow, ByCount}
 use Rattle.rows.specs.declared.Row.{Row}
-use Rattle.rows.specs.declared.Row.TheVariants.{Ends, Closes, Stops}
+use Rattle.rows.specs.declared.Row.TheVariants.{Ends, Closes}
+use Rattle.rows.specs.declared.Stopped.{Stopped}
 use Rattle.log_line.specs.Answers.{log_of, k_in, log_leaves}
-use Rattle.log_line.specs.Lines.{log_line_of, line_leaves, ReadsLine}
-use Rattle.log_line.specs.declared.Log.TheVariants.{Refused}
-use Rattle.log_line.specs.declared.Line.{Line}
-use Rattle.log_line.specs.declared.Line.TheVariants.{Answer}
+use Rattle.log_line.specs.Lines.{Line, log_line_of, line_leaves, ReadsLine}
 
 -- Two permitted answers are equal, and so are the buffers after them.
 pub one_line : {d : Step def.Log def.LogAnswer} {old n₁ n₂ : List ℤ} {r₁ r₂ : Line} → ReadsLine d old n₁ r₁ → ReadsLine d old n₂ r₂ → (r₁ ≡ r₂) × (n₁ ≡ n₂)
@@ -38,26 +36,26 @@ log_k_left (def.refused_log r so) = refl
 pub one_count : {A : Type 0} {n : ℕ} {f : List ℤ → A} {r₁ r₂ : A} → ByCount n f r₁ → ByCount n f r₂ → r₁ ≡ r₂
 one_count {n = n} p q = let so = replicate n (pos 0) in let e = length-replicate n (pos 0) in p so e ∙ sym (q so e)
 
-pub line_read_leaves : (s : List ℕ) (at : ℕ) (verdict : Verdict) (a : Assignment) (so : List ℤ) → line_leaves (def.line_read s at verdict a so) ≡ so
+pub line_read_leaves : (s : List ℕ) (at : ℕ) (verdict : Option Verdict) (a : Assignment) (so : List ℤ) → line_leaves (def.line_read s at verdict a so) ≡ so
 line_read_leaves s at verdict a so = go (end_of_line s at)
   where
-    go : (x : EndOfLine)
-        → line_leaves (line_ends x (λ next. again (def.log_at next verdict a so)) (answer (def.refused_log (refusal s Reason.line_end_expected at) so))) ≡ so
-    go end.Missing = refl
-    go (end.Past n) = refl
+    go : (x : Option ℕ)
+        → line_leaves (line_ends x (λ next. again (def.log_at next verdict a so)) (answer (def.refused_log (refusal s Reason.LineEndExpected at) so))) ≡ so
+    go None = refl
+    go (Some n) = refl
 
-module _ (s : List ℕ) (verdict : Verdict) (d : row.Row) (old new : List ℤ) where
+module _ (s : List ℕ) (verdict : Option Verdict) (d : row.Row) (old new : List ℤ) where
   -- What is read of a line at a place, after so many literals.
   abbrev ReadAt : ℕ → Assignment → ℕ → Line → Type 0
   ReadAt n a count = ByCount count (λ so. log_line_of (def.line_read s n verdict a so))
 
   -- What the values of a line lead to.
-  abbrev ValuesLead : Row → Type 0
-  ValuesLead (Ends n count) = (r : Line) → ReadAt n Begun count r → ReadsLine (def.values_read s verdict d) old new r
-  ValuesLead (Closes n count) = (r : Line) → ReadAt n Closed count r → ReadsLine (def.values_read s verdict d) old new r
-  ValuesLead (Stops x count) = ReadsLine (def.values_read s verdict d) old new (Answer (Refused x count))
+  abbrev ValuesLead : Result Row Stopped → Type 0
+  ValuesLead (Ok (Ends n count)) = (r : Line) → ReadAt n Begun count r → ReadsLine (def.values_read s verdict d) old new r
+  ValuesLead (Ok (Closes n count)) = (r : Line) → ReadAt n Closed count r → ReadsLine (def.values_read s verdict d) old new r
+  ValuesLead (Err e) = ReadsLine (def.values_read s verdict d) old new (answer (Err e))
 
-  pub values_lead : {r m : Row} → ReadsRow d old new r → r ≡ m → ValuesLead m
+  pub values_lead : {r m : Result Row Stopped} → ReadsRow d old new r → r ≡ m → ValuesLead m
   values_lead h e = subst ValuesLead (sym h.row ∙ e) (go d refl h.buffer)
     where
       go : (x : row.Row) → d ≡ x → new ≡ laid (read_by x) old → ValuesLead (row_of x)

@@ -1,43 +1,56 @@
--- The word of a solution line, a law for each. Assumes nothing.
-use Prim.Native.Nat.{ℕ}
-use mathlib.Core.List.{List}
+-- The words of a solution line, one after another. Assumes nothing.
+use Prim.Native.Nat.{ℕ, zero, suc, ◌+◌, ◌≤◌, ◌<◌}
+use mathlib.Core.Bool.{true}
+use mathlib.Core.List.{List, [], ◌∷◌}
 use mathlib.Core.Path.{◌≡◌, refl, sym, ◌∙◌}
+use native.Mathlib.Omega.{arith}
 use borrow.Author.Tests.{eq-eqb, ne_eqb}
-use Rattle.dimacs.specs.Loop.{answer}
-use Rattle.dimacs.specs.Bytes.{bytes}
+use denote.Bor.{Bor}
+use lib.ListN.{length, get_or, drop, drop_of_length-le}
+use lib.Seq.{drop-cons}
+use Rattle.std.specs.Prelude.{Some}
+use Rattle.dimacs.specs.Loop.{Step, answer}
 use Rattle.dimacs.specs.Lined.{lined}
-use Rattle.dimacs.specs.Names.{Reason, refusal}
+use Rattle.dimacs.specs.Names.{refusal}
 use Rattle.dimacs.specs.Tokens.{fixed}
 use Rattle.dimacs.specs.Logs as def
 use Rattle.dimacs.specs.declared.Ends.{Ends}
-use Rattle.dimacs.specs.declared.Verdict.TheVariants.{Yes, No, Unknown}
-use Rattle.dimacs.proofs.LinedTokens.{fixed_lined}
+use Rattle.dimacs.specs.declared.Reason.{Reason}
+use Rattle.dimacs.specs.declared.Verdict.{Verdict}
+use Rattle.dimacs.proofs.LinedTokens.{on_one_line, fixed_lined}
 
--- By the places that the calls for the three words gave. A word is at one place in a text and in the text as it is read.
-module _ (rule : Ends) (s : List ℕ) (at : ℕ) (l : def.Log) (a : ℕ) (a-is : a ≡ fixed s (bytes "SATISFIABLE") at) where
-  yes_at : fixed (lined rule s) (bytes "SATISFIABLE") at ≡ a
-  yes_at = fixed_lined rule s (bytes "SATISFIABLE") at refl ∙ sym a-is
+-- A word as it is lent, and what it says.
+abbrev Word : Type 0
+Word = Bor (List ℕ) × Verdict
 
-  pub says_yes : (a ≡ at → ⊥) → def.solution_line (lined rule s) at l ≡ def.line_read (lined rule s) a Yes l.assignment l.so
-  unfolding def.solution_line
-  says_yes h = rw (yes_at, ne_eqb a at h)
+-- What a solution line comes to by the first of these words that stands.
+abbrev pub said_by : List ℕ → ℕ → def.Log → List Word → Step def.Log def.LogAnswer
+said_by s at l [] = answer (def.refused_log (refusal s Reason.SolutionExpected at) l.so)
+said_by s at l (w ∷ more) = def.solution_is s w.1 w.0.now at l (said_by s at l more)
 
-  module _ (a-no : a ≡ at) (b : ℕ) (b-is : b ≡ fixed s (bytes "UNSATISFIABLE") at) where
-    no_at : fixed (lined rule s) (bytes "UNSATISFIABLE") at ≡ b
-    no_at = fixed_lined rule s (bytes "UNSATISFIABLE") at refl ∙ sym b-is
+-- No word has the byte of a line end, which is read as another.
+abbrev pub Plain : List Word → Type 0
+Plain [] = Unit {0}
+Plain (w ∷ more) = (on_one_line w.0.now ≡ true) × Plain more
 
-    pub says_no : (b ≡ at → ⊥) → def.solution_line (lined rule s) at l ≡ def.line_read (lined rule s) b No l.assignment l.so
-    unfolding def.solution_line
-    says_no h = rw (yes_at, eq-eqb a at a-no, no_at, ne_eqb b at h)
+plain_at : (ws : List Word) (i : ℕ) (d : Word) → Plain ws → i < length ws → on_one_line (get_or ws i d).0.now ≡ true
+plain_at [] i d p h = absurd (omega arith)
+plain_at (w ∷ more) zero d p h = p.0
+plain_at (w ∷ more) (suc i) d p h = plain_at more i d p.1 (omega arith)
 
-    module _ (b-no : b ≡ at) (c : ℕ) (c-is : c ≡ fixed s (bytes "UNKNOWN") at) where
-      unknown_at : fixed (lined rule s) (bytes "UNKNOWN") at ≡ c
-      unknown_at = fixed_lined rule s (bytes "UNKNOWN") at refl ∙ sym c-is
+module _ (rule : Ends) (s : List ℕ) (at : ℕ) (l : def.Log) (ws : List Word) (i : ℕ) (d : Word) (plain : Plain ws) (h : i < length ws) (p : ℕ) (is : p ≡ fixed s (get_or ws i d).0.now at) where
+  -- The word is at one place in a text and in the text as it is read.
+  fixed_at : fixed (lined rule s) (get_or ws i d).0.now at ≡ p
+  fixed_at = fixed_lined rule s (get_or ws i d).0.now at (plain_at ws i d plain h) ∙ sym is
 
-      pub says_unknown : (c ≡ at → ⊥) → def.solution_line (lined rule s) at l ≡ def.line_read (lined rule s) c Unknown l.assignment l.so
-      unfolding def.solution_line
-      says_unknown h = rw (yes_at, eq-eqb a at a-no, no_at, eq-eqb b at b-no, unknown_at, ne_eqb c at h)
+  -- The next word stands.
+  pub word_stands : (p ≡ at → ⊥) → said_by (lined rule s) at l (drop i ws) ≡ def.line_read (lined rule s) p (Some (get_or ws i d).1) l.assignment l.so
+  word_stands n = rw (drop-cons ws i d h, fixed_at, ne_eqb p at n) refl
 
-      pub says_nothing : c ≡ at → def.solution_line (lined rule s) at l ≡ answer (def.refused_log (refusal (lined rule s) Reason.solution_expected at) l.so)
-      unfolding def.solution_line
-      says_nothing h = rw (yes_at, eq-eqb a at a-no, no_at, eq-eqb b at b-no, unknown_at, eq-eqb c at h)
+  -- It does not, and those after it are left.
+  pub word_missing : p ≡ at → said_by (lined rule s) at l (drop i ws) ≡ said_by (lined rule s) at l (drop (i + 1) ws)
+  word_missing e = let k : i + 1 ≡ suc i = omega arith in rw (drop-cons ws i d h, fixed_at, eq-eqb p at e, k) refl
+
+-- None is left.
+pub none_stands : (s : List ℕ) (at : ℕ) (l : def.Log) (ws : List Word) (i : ℕ) → length ws ≤ i → said_by s at l (drop i ws) ≡ answer (def.refused_log (refusal s Reason.SolutionExpected at) l.so)
+none_stands s at l ws i h = rw (drop_of_length-le ws h) refl

@@ -1,36 +1,37 @@
 -- The answer for a log by that of the definition, and the literals that it leaves in the lent buffer.
-use Rattle.std.specs.Prelude.{ℕ, List, length, ℤ}
+use Rattle.std.specs.Prelude.{ℕ, List, length, ℤ, Result, Ok, Err}
 use Rattle.dimacs.specs.Names.{refused_spot}
 use Rattle.dimacs.specs.Spots.{nowhere}
 use Rattle.dimacs.specs.Logs as def
 use Rattle.dimacs.specs.declared.Spot.{Spot}
-use Rattle.log_line.specs.declared.Log.{Log}
-use Rattle.log_line.specs.declared.Log.TheVariants.{Accepted, Refused}
+use Rattle.rows.specs.Answers.{stopped_after}
+use Rattle.rows.specs.declared.Stopped.{Stopped}
+use Rattle.log_line.specs.declared.Accepted.{Accepted}
 
 -- An accepted log is told by its verdict and its count of literals, a refusal by its number and place and the count of literals before it.
-abbrev pub log_of : def.LogAnswer → Log
-log_of (def.accepted v so) = Accepted v (length so)
-log_of (def.refused_log r so) = Refused r (length so)
+abbrev pub log_of : def.LogAnswer → Result Accepted Stopped
+log_of (def.accepted v so) = Ok (record { verdict = v; count = length so })
+log_of (def.refused_log r so) = Err (stopped_after (length so) r)
 
 -- The number of the refusal, 0 where the log is accepted.
-abbrev pub number_in : Log → ℕ
-number_in (Accepted v n) = 0
-number_in (Refused r n) = r.number
+abbrev pub number_in : Result Accepted Stopped → ℕ
+number_in (Ok a) = 0
+number_in (Err e) = e.refusal.number
 
 -- The place of the refusal, 0 where the log is accepted.
-abbrev pub place_in : Log → ℕ
-place_in (Accepted v n) = 0
-place_in (Refused r n) = r.place
+abbrev pub place_in : Result Accepted Stopped → ℕ
+place_in (Ok a) = 0
+place_in (Err e) = e.refusal.place
 
 -- Line and column of the refusal, 0 and 0 where the log is accepted.
-abbrev pub spot_in : Log → Spot
-spot_in (Accepted v n) = nowhere
-spot_in (Refused r n) = refused_spot r
+abbrev pub spot_in : Result Accepted Stopped → Spot
+spot_in (Ok a) = nowhere
+spot_in (Err e) = refused_spot e.refusal
 
 -- k, how many literals were read.
-abbrev pub k_in : Log → ℕ
-k_in (Accepted v n) = n
-k_in (Refused r n) = n
+abbrev pub k_in : Result Accepted Stopped → ℕ
+k_in (Ok a) = a.count
+k_in (Err e) = e.count
 
 -- The literals that an answer leaves in the buffer.
 abbrev pub log_leaves : def.LogAnswer → List ℤ

@@ -1,13 +1,11 @@
 -- What the functions that read a line answer, by the definition. The literals so far are those at the front of the buffer.
-use Rattle.std.specs.Prelude.{ℕ, List, ◌≡◌, length, ℤ}
+use Rattle.std.specs.Prelude.{List, ◌≡◌, length, ℤ, Result, Ok, Err}
 use Rattle.dimacs.specs.Loop.{Step, again, answer}
-use Rattle.dimacs.specs.Names.{numbered}
 use Rattle.dimacs.specs.Logs as def
 use Rattle.dimacs.specs.Buffers.{laid}
-use Rattle.log_line.specs.declared.Log.TheVariants.{Refused}
+use Rattle.rows.specs.declared.Stopped.{Stopped}
+use Rattle.log_line.specs.declared.Accepted.{Accepted}
 use Rattle.log_line.specs.declared.Reading.{Reading}
-use Rattle.log_line.specs.declared.Line.{Line}
-use Rattle.log_line.specs.declared.Line.TheVariants.{Again, Answer}
 use Rattle.log_line.specs.Answers.{log_of, log_leaves}
 
 -- A state of the code with the literals so far is one of the definition.
@@ -18,14 +16,19 @@ log_state_of r so = def.log_at r.place r.verdict r.assignment so
 abbrev pub reading_of : def.Log → Reading
 reading_of l = record { place = l.at; verdict = l.verdict; assignment = l.assignment; count = length l.so }
 
+-- What a line leads to in the code: where the next is read, or what the log comes to.
+abbrev pub Line : Type 0
+Line = Step Reading (Result Accepted Stopped)
+
 -- What a line leads to, with its literals counted.
 abbrev pub log_line_of : Step def.Log def.LogAnswer → Line
-log_line_of (again l) = Again (reading_of l)
-log_line_of (answer a) = Answer (log_of a)
+log_line_of (again l) = again (reading_of l)
+log_line_of (answer a) = answer (log_of a)
 
--- A refusal by its number, with so many literals before it.
-abbrev pub line_refused : List ℕ → ℕ → ℕ → ℕ → Line
-line_refused s number at count = Answer (Refused (numbered s number at) count)
+-- A line that does not end the log leads to the next, unless it is refused.
+abbrev pub leads : Result Reading Stopped → Line
+leads (Ok r) = again r
+leads (Err e) = answer (Err e)
 
 -- The literals that a line leaves in the buffer.
 abbrev pub line_leaves : Step def.Log def.LogAnswer → List ℤ

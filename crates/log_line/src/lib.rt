@@ -2,152 +2,138 @@
 #![tactic(auto)]
 
 ghost use Rattle.std.specs.Prelude.{◌≡◌, length, take};
+ghost use Rattle.dimacs.specs.Names.{refusal};
 ghost use Rattle.dimacs.specs.Lined.{lined};
 ghost use Rattle.dimacs.specs.Logs.{line_read, solution_line, log_end, other_line, value_line};
-ghost use Rattle.rows.specs.Answers.{ByCount};
+ghost use Rattle.rows.specs.Answers.{stopped_after, ByCount};
 ghost use Rattle.log_line.specs.Answers.{log_of};
-ghost use Rattle.log_line.specs.Lines.{log_state_of, log_line_of, line_refused, ReadsLine};
+ghost use Rattle.log_line.specs.Lines.{log_state_of, log_line_of, leads, ReadsLine};
 
-use dimacs::{
-    ASSIGNMENT_OPEN, Assignment, CEILING, EndOfLine, Ends, LINE_END_EXPECTED, LOG_LINE_EXPECTED,
-    Mode, Refusal, Rigor, SOLUTION_EXPECTED, Verdict, refuse,
-};
-use rows::Row;
+use dimacs::{Assignment, CEILING, Ends, Mode, Reason, Rigor, Verdict, refuse};
+use rows::{Row, Stopped};
 
-// What a log comes to.
-#[derive(Clone, Copy)]
-pub enum Log {
-    // The solver's verdict, and how many literals of the assignment the buffer holds.
-    Accepted { verdict: Verdict, count: usize },
-    // A refusal, and how many literals before it the buffer holds.
-    Refused { refusal: Refusal, count: usize },
+// What an accepted log comes to: the solver's verdict, if a solution line stands, and how many literals of the assignment the buffer holds.
+#[derive(Clone, Copy, Debug, PartialEq, Eq)]
+pub struct Accepted {
+    pub verdict: Option<Verdict>,
+    pub count: usize,
 }
 
 // Where a log is read: the place, the verdict so far, how far the assignment is, and how many literals the buffer holds.
-#[derive(Clone, Copy)]
+#[derive(Clone, Copy, Debug, PartialEq, Eq)]
 pub struct Reading {
     pub place: usize,
-    pub verdict: Verdict,
+    pub verdict: Option<Verdict>,
     pub assignment: Assignment,
     pub count: usize,
 }
 
-// What a line leads to: where the next is read, or the answer.
-#[derive(Clone, Copy)]
-pub enum Line {
-    Again(Reading),
-    Answer(Log),
-}
-
-// A refusal as what a line leads to.
-fn refused(text: &[u8], ends: Ends, number: u8, place: usize, count: usize) -> Line
-    ensures { result ≡ line_refused (lined ends text.now) number place count }
+// A refusal at a place, after so many literals.
+fn stopped(text: &[u8], ends: Ends, reason: Reason, place: usize, count: usize) -> Stopped
+    ensures { result ≡ stopped_after count (refusal (lined ends text.now) reason place) }
 {
-    Line::Answer(Log::Refused {
-        refusal: refuse(text, ends, number, place),
+    Stopped {
+        refusal: refuse(text, ends, reason, place),
         count,
-    })
+    }
 }
 
-// A value line or solution line is read: what closes it.
-fn line_read(
-    text: &[u8],
-    ends: Ends,
-    at: usize,
-    verdict: Verdict,
-    assignment: Assignment,
-    count: usize,
-) -> Line
-    ensures { ByCount count (λ so. log_line_of (line_read (lined ends text.now) at verdict assignment so)) result }
+// A value line or solution line is read up to a place: what closes it.
+fn line_read(text: &[u8], ends: Ends, read: Reading) -> Result<Reading, Stopped>
+    ensures { ByCount read.count (λ so. log_line_of (line_read (lined ends text.now) read.place read.verdict read.assignment so)) (leads result) }
 {
-    match token::interactive_end_of_line(text, ends, at) {
-        EndOfLine::Missing => refused(text, ends, LINE_END_EXPECTED, at, count),
-        EndOfLine::Past(place) => Line::Again(Reading {
-            place,
-            verdict,
-            assignment,
-            count,
-        }),
+    match token::interactive_end_of_line(text, ends, read.place) {
+        Some(place) => Ok(Reading { place, ..read }),
+        None => Err(stopped(text, ends, Reason::LineEndExpected, read.place, read.count)),
     }
 }
 
 // A value line after its `v `.
-pub fn value_line(text: &[u8], ends: Ends, at: usize, reading: Reading, lits: &mut [i32]) -> Line
-    ensures { ReadsLine (value_line (lined ends text.now) (length lits.old) at (log_state_of reading (take reading.count lits.old))) lits.old lits.new result }
+pub fn value_line(
+    text: &[u8],
+    ends: Ends,
+    at: usize,
+    reading: Reading,
+    lits: &mut [i32],
+) -> Result<Reading, Stopped>
+    ensures { ReadsLine (value_line (lined ends text.now) (length lits.old) at (log_state_of reading (take reading.count lits.old))) lits.old lits.new (leads result) }
 {
-    let verdict = reading.verdict;
     let from = token::skip_whitespace(text, at);
-    match rows::ints(text, ends, from, CEILING, reading.count, lits) {
-        Row::Ends { place, count } => line_read(
-            text,
-            ends,
-            place,
-            verdict,
-            Assignment::Begun,
-            count,
-        ),
-        Row::Closes { place, count } => {
-            line_read(text, ends, place, verdict, Assignment::Closed, count)
+    match rows::ints(text, ends, from, CEILING, reading.count, lits)? {
+        Row::Ends { place, count } => {
+            let read = Reading {
+                place,
+                assignment: Assignment::Begun,
+                count,
+                ..reading
+            };
+            line_read(text, ends, read)
         }
-        Row::Stops { refusal, count } => Line::Answer(Log::Refused { refusal, count }),
+        Row::Closes { place, count } => {
+            let read = Reading {
+                place,
+                assignment: Assignment::Closed,
+                count,
+                ..reading
+            };
+            line_read(text, ends, read)
+        }
     }
 }
 
+// The words of a solution line, and what each says.
+const WORDS: [(&[u8], Verdict); 3] = [
+    (b"SATISFIABLE", Verdict::Yes),
+    (b"UNSATISFIABLE", Verdict::No),
+    (b"UNKNOWN", Verdict::Unknown),
+];
+
 // A solution line after its `s `.
-pub fn solution_line(text: &[u8], ends: Ends, at: usize, reading: Reading) -> Line
-    ensures { ByCount reading.count (λ so. log_line_of (solution_line (lined ends text.now) at (log_state_of reading so))) result }
+pub fn solution_line(
+    text: &[u8],
+    ends: Ends,
+    at: usize,
+    reading: Reading,
+) -> Result<Reading, Stopped>
+    ensures { ByCount reading.count (λ so. log_line_of (solution_line (lined ends text.now) at (log_state_of reading so))) (leads result) }
 {
-    let assignment = reading.assignment;
-    let count = reading.count;
-    let yes = token::fixed(text, at, b"SATISFIABLE");
-    if yes != at {
-        return line_read(text, ends, yes, Verdict::Yes, assignment, count);
+    for (word, verdict) in WORDS {
+        let place = token::fixed(text, at, word);
+        if place != at {
+            let read = Reading {
+                place,
+                verdict: Some(verdict),
+                ..reading
+            };
+            return line_read(text, ends, read);
+        }
     }
-    let no = token::fixed(text, at, b"UNSATISFIABLE");
-    if no != at {
-        return line_read(text, ends, no, Verdict::No, assignment, count);
-    }
-    let unknown = token::fixed(text, at, b"UNKNOWN");
-    if unknown != at {
-        return line_read(text, ends, unknown, Verdict::Unknown, assignment, count);
-    }
-    refused(text, ends, SOLUTION_EXPECTED, at, count)
+    Err(stopped(text, ends, Reason::SolutionExpected, at, reading.count))
 }
 
 // The end of the text, which may not come while the assignment is open.
-pub fn log_end(text: &[u8], ends: Ends, reading: Reading) -> Log
+pub fn log_end(text: &[u8], ends: Ends, reading: Reading) -> Result<Accepted, Stopped>
     ensures { ByCount reading.count (λ so. log_of (log_end (lined ends text.now) reading.place reading.verdict so reading.assignment)) result }
 {
     let verdict = reading.verdict;
-    let assignment = reading.assignment;
     let count = reading.count;
-    match assignment {
-        Assignment::Unbegun => Log::Accepted { verdict, count },
-        Assignment::Begun => Log::Refused {
-            refusal: refuse(text, ends, ASSIGNMENT_OPEN, reading.place),
-            count,
-        },
-        Assignment::Closed => Log::Accepted { verdict, count },
+    match reading.assignment {
+        Assignment::Begun => Err(stopped(text, ends, Reason::AssignmentOpen, reading.place, count)),
+        Assignment::Unbegun | Assignment::Closed => Ok(Accepted { verdict, count }),
     }
 }
 
 // A line of no permitted kind: refused, or skipped in a lenient reading.
-pub fn other_line(text: &[u8], mode: Mode, reading: Reading) -> Line
-    ensures { ByCount reading.count (λ so. log_line_of (other_line (lined mode.ends text.now) mode.rigor (log_state_of reading so))) result }
+pub fn other_line(text: &[u8], mode: Mode, reading: Reading) -> Result<Reading, Stopped>
+    ensures { ByCount reading.count (λ so. log_line_of (other_line (lined mode.ends text.now) mode.rigor (log_state_of reading so))) (leads result) }
 {
-    let rigor = mode.rigor;
     let ends = mode.ends;
     let place = reading.place;
-    let verdict = reading.verdict;
-    let assignment = reading.assignment;
-    let count = reading.count;
-    match rigor {
-        Rigor::Strict => refused(text, ends, LOG_LINE_EXPECTED, place, count),
-        Rigor::Lenient => Line::Again(Reading {
+    match mode.rigor {
+        Rigor::Strict => Err(stopped(text, ends, Reason::LogLineExpected, place, reading.count)),
+        Rigor::Lenient => Ok(Reading {
             place: token::interactive_skip_line(text, ends, place),
-            verdict,
-            assignment,
-            count,
+            ..reading
         }),
     }
 }
