@@ -196,17 +196,8 @@ fn ends_line(text: &[u8], ends: Ends, at: usize) -> bool
     ensures { result ≡ eqb (byte_at (lined ends text.now) at) LF }
 {
     let b = text[at];
-    if b == b'\n' {
-        return true;
-    }
-    if b == also_ends(ends) {
-        let next = at + 1;
-        if next < text.len() {
-            return text[next] != b'\n';
-        }
-        return true;
-    }
-    false
+    let next = at + 1;
+    b == b'\n' || b == also_ends(ends) && (text.len() <= next || text[next] != b'\n')
 }
 
 // The line and the column of a place. A place past the text's end has those of the end.
@@ -219,15 +210,13 @@ fn spot_of(text: &[u8], ends: Ends, place: usize) -> Spot
     }
     let mut line: usize = 1;
     let mut column: usize = 1;
-    let mut i: usize = 0;
-    while i < place {
+    for i in 0..place {
         if ends_line(text, ends, i) {
             line += 1;
             column = 1;
         } else {
             column += 1;
         }
-        i += 1;
     }
     Spot { line, column }
 }
