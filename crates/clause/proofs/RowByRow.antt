@@ -6,7 +6,9 @@ use mathlib.Core.Path.{◌≡◌, refl, ap, sym, ◌∙◌, subst}
 use native.Mathlib.Omega.{arith}
 use lib.ListN.{length, take}
 use lib.IntN.{ℤ}
-use Rattle.dimacs.specs.Names.{Reason, refusal}
+use Rattle.std.specs.Prelude.{Some, None, Result, Ok, Err}
+use Rattle.dimacs.specs.Names.{refusal}
+use Rattle.dimacs.specs.declared.Reason.{Reason}
 use Rattle.dimacs.specs.Tokens.{linebreaks}
 use Rattle.dimacs.specs.Rows as def
 use Rattle.dimacs.specs.Rows.{reads, row, read_by}
@@ -18,11 +20,11 @@ use Rattle.dimacs.proofs.Rows.{RowSpans, row_spans, Grown, row_grows}
 use Rattle.dimacs.proofs.Literals.{closed_by, stopped_by, nothing_there, none_after_lines, none_on_line, breaks}
 use Rattle.dimacs.proofs.Buffer.{Kept, kept_unchanged, kept_count, kept_beyond, kept_adds, laid_first}
 use Rattle.rows.specs.Answers as rows
-use Rattle.rows.specs.Answers.{row_of}
+use Rattle.rows.specs.Answers.{row_of, stopped_after}
 use Rattle.rows.specs.declared.Row.{Row}
-use Rattle.rows.specs.declared.Row.TheVariants.{Ends, Closes, Stops}
+use Rattle.rows.specs.declared.Row.TheVariants.{Ends, Closes}
+use Rattle.rows.specs.declared.Stopped.{Stopped}
 use Rattle.clause.specs.Answers.{ReadsLiterals}
-use Rattle.clause.specs.declared.Literals.TheVariants.{Nothing, Closed, Stopped}
 
 pub record SoFar (s : List ℕ) (limit at : ℕ) (old lits : List ℤ) (from held : ℕ) : Type 0 where
   pub kept : Kept old lits held
@@ -49,7 +51,7 @@ module _ {s : List ℕ} {limit at : ℕ} {old lits : List ℤ} {from held : ℕ}
   over d e b = b ∙ ap (λ l. read_by d ++ l) (kept_beyond h.kept (length (read_by d)) (grown d e).0)
 
   -- A row that was read, as the definition has it.
-  by_row : {new : List ℤ} {r : Row} (P : Row → Type 0) → rows.ReadsRow (row s limit (length lits) (reads from (take held lits))) lits new r
+  by_row : {new : List ℤ} {r : Result Row Stopped} (P : Result Row Stopped → Type 0) → rows.ReadsRow (row s limit (length lits) (reads from (take held lits))) lits new r
       → ((d : def.Row) → the_row ≡ d → new ≡ laid (read_by d) lits → P (row_of d)) → P r
   unfolding the_row
   by_row P g k =
@@ -60,19 +62,19 @@ module _ {s : List ℕ} {limit at : ℕ} {old lits : List ℤ} {from held : ℕ}
 
   -- What a row that ended without its 0 leads to: no literals at all, refusal 7 or 6, or on past the line ends.
   pub record EndsOpen (new : List ℤ) (place count : ℕ) : Type 0 where
-    pub none : count ≡ 0 → ReadsLiterals s limit at old new Nothing
-    pub after_lines : (count ≡ 0 → ⊥) → count ≡ held → (x : Refusal) → x ≡ refusal s Reason.literal_expected_after_lines place → ReadsLiterals s limit at old new (Stopped x count)
-    pub on_line : (count ≡ 0 → ⊥) → (count ≡ held → ⊥) → (q : ℕ) → q ≡ linebreaks s place → q ≡ place → (x : Refusal) → x ≡ refusal s Reason.literal_expected place
-        → ReadsLiterals s limit at old new (Stopped x count)
+    pub none : count ≡ 0 → ReadsLiterals s limit at old new (Ok None)
+    pub after_lines : (count ≡ 0 → ⊥) → count ≡ held → (x : Refusal) → x ≡ refusal s Reason.LiteralExpectedAfterLines place → ReadsLiterals s limit at old new (Err (stopped_after count x))
+    pub on_line : (count ≡ 0 → ⊥) → (count ≡ held → ⊥) → (q : ℕ) → q ≡ linebreaks s place → q ≡ place → (x : Refusal) → x ≡ refusal s Reason.LiteralExpected place
+        → ReadsLiterals s limit at old new (Err (stopped_after count x))
     pub on : (count ≡ 0 → ⊥) → (count ≡ held → ⊥) → (q : ℕ) → q ≡ linebreaks s place → (q ≡ place → ⊥)
         → SoFar s limit at old new q count × (length s - q < length s - from)
 
-  abbrev AfterRow : List ℤ → Row → Type 0
-  AfterRow new (Ends place count) = EndsOpen new place count
-  AfterRow new (Closes place count) = ReadsLiterals s limit at old new (Closed count place)
-  AfterRow new (Stops x count) = ReadsLiterals s limit at old new (Stopped x count)
+  abbrev AfterRow : List ℤ → Result Row Stopped → Type 0
+  AfterRow new (Ok (Ends place count)) = EndsOpen new place count
+  AfterRow new (Ok (Closes place count)) = ReadsLiterals s limit at old new (Ok (Some (record { count = count; next = place })))
+  AfterRow new (Err x) = ReadsLiterals s limit at old new (Err x)
 
-  pub after_row : {new : List ℤ} {r m : Row} → rows.ReadsRow (row s limit (length lits) (reads from (take held lits))) lits new r
+  pub after_row : {new : List ℤ} {r m : Result Row Stopped} → rows.ReadsRow (row s limit (length lits) (reads from (take held lits))) lits new r
       → r ≡ m → AfterRow new m
   unfolding the_row
   after_row {new} g e = subst (AfterRow new) e (by_row (AfterRow new) g go)

@@ -3,113 +3,110 @@
 
 ghost use Rattle.std.specs.Prelude.{◌≡◌, length};
 ghost use Rattle.dimacs.specs.Lined.{lined};
+ghost use Rattle.dimacs.specs.Names.{number_of};
 ghost use Rattle.dimacs.specs.Clauses.{instead, absent, is_zero, start_by, soft_by, start_in2022, start_at, closing, clause_at};
 ghost use Rattle.dimacs.specs.Tokens.{linebreaks};
 ghost use Rattle.dimacs.specs.declared.Absence.{Absence};
 ghost use Rattle.rows.specs.Answers.{ByCount};
 ghost use Rattle.clause.specs.Answers.{answered_of, ReadsLiterals, Answers};
-ghost use Rattle.clause.specs.Begins.{start_of, BeginsAt, BeginsBy};
+ghost use Rattle.clause.specs.Begins.{begin_at, start_of, BeginsAt, BeginsBy};
 
-use dimacs::{
-    Absence, CLAUSE_EXPECTED, EndOfLine, Ends, Format, GROUP_TOO_BIG, HARD, HEADER_NOT_EXPECTED,
-    Instead, LARGEST, LINE_END_EXPECTED, LITERAL_EXPECTED, LITERAL_EXPECTED_AFTER_LINES,
-    LITERALS_EXPECTED, Limits, Refusal, Uint, WEIGHT_TOO_BIG, WEIGHT_ZERO, refuse,
-};
-use rows::Row;
+use dimacs::{Absence, Ends, Format, HARD, LARGEST, Limits, Reason, Refusal, Uint, refuse};
+use rows::{Row, Stopped};
 
-// What a list of literals comes to: no number stands at its place; or how many there are and the place past the 0 and the blanks after it; or a refusal and how many stand before it.
-#[derive(Clone, Copy)]
-pub enum Literals {
-    Nothing,
-    Closed { count: usize, next: usize },
-    Stopped { refusal: Refusal, count: usize },
+// Literals that their 0 closes: how many there are, and the place past the 0 and the blanks after it.
+#[derive(Clone, Copy, Debug, PartialEq, Eq)]
+pub struct Closed {
+    pub count: usize,
+    pub next: usize,
 }
 
-// What a call for the next clause answers.
-#[derive(Clone, Copy)]
-pub enum Next {
-    // A clause: its weight or group, 0 if it has neither, and how many literals the buffer holds of it.
-    Clause { extra: u64, count: usize },
-    // The text is read to its end.
-    Ended,
-    // A refusal, and how many literals of the unfinished clause the buffer holds.
-    Refused { refusal: Refusal, count: usize },
+// A clause: its weight or group, 0 if it has neither, and how many literals the buffer holds of it.
+#[derive(Clone, Copy, Debug, PartialEq, Eq)]
+pub struct Clause {
+    pub extra: u64,
+    pub count: usize,
 }
+
+// What a call for the next clause answers: a clause, or none as the text is read to its end; or a refusal, and how many literals of the unfinished clause the buffer holds.
+pub type Next = Result<Option<Clause>, Stopped>;
 
 // An answer, and the place where the next call begins.
-#[derive(Clone, Copy)]
+#[derive(Clone, Copy, Debug, PartialEq, Eq)]
 pub struct Answered {
     pub answer: Next,
     pub place: usize,
 }
 
-// The literals from a place on, up to the 0.
-fn clause_lits(text: &[u8], ends: Ends, at: usize, limit: u32, lits: &mut [i32]) -> Literals
+// The literals from a place on, up to the 0, or none where no number stands there.
+fn clause_lits(
+    text: &[u8],
+    ends: Ends,
+    at: usize,
+    limit: u32,
+    lits: &mut [i32],
+) -> Result<Option<Closed>, Stopped>
     ensures { ReadsLiterals (lined ends text.now) limit at lits.old lits.new result }
 {
     let mut from = at;
     let mut held: usize = 0;
     loop {
-        match rows::ints(text, ends, from, limit, held, lits) {
+        match rows::ints(text, ends, from, limit, held, lits)? {
             Row::Ends { place, count } => {
                 if count == 0 {
-                    return Literals::Nothing;
+                    return Ok(None);
                 }
                 if count == held {
-                    return Literals::Stopped {
-                        refusal: refuse(text, ends, LITERAL_EXPECTED_AFTER_LINES, place),
+                    return Err(Stopped {
+                        refusal: refuse(text, ends, Reason::LiteralExpectedAfterLines, place),
                         count,
-                    };
+                    });
                 }
                 let past = token::non_terminating_linebreaks(text, ends, place);
                 if past == place {
-                    return Literals::Stopped {
-                        refusal: refuse(text, ends, LITERAL_EXPECTED, place),
+                    return Err(Stopped {
+                        refusal: refuse(text, ends, Reason::LiteralExpected, place),
                         count,
-                    };
+                    });
                 }
                 from = past;
                 held = count;
             }
-            Row::Closes { place, count } => {
-                return Literals::Closed { count, next: place };
-            }
-            Row::Stops { refusal, count } => {
-                return Literals::Stopped { refusal, count };
-            }
+            Row::Closes { place, count } => return Ok(Some(Closed { count, next: place })),
         }
     }
 }
 
 // What is answered where no clause stands, with no literals.
-fn instead(i: Instead) -> Answered
+fn instead(i: Result<usize, Refusal>) -> Answered
     ensures { result ≡ answered_of (instead i) }
 {
     match i {
-        Instead::Ended(place) => Answered {
-            answer: Next::Ended,
+        Ok(place) => Answered {
+            answer: Ok(None),
             place,
         },
-        Instead::Refused(refusal) => Answered {
-            answer: Next::Refused { refusal, count: 0 },
+        Err(refusal) => Answered {
+            answer: Err(Stopped { refusal, count: 0 }),
             place: refusal.place,
         },
     }
 }
 
-// Where no number stands: the end of the text if it may come there, else a refusal.
-fn absent(text: &[u8], ends: Ends, at: usize, absence: Absence) -> Instead
+// Where no number stands: the place of the text's end if it may come there, else a refusal.
+#[tactic(auto, using(dimacs::proofs::LinedTokens::end_lined), unfolding(dimacs::specs::Clauses::absent))]
+fn absent(text: &[u8], ends: Ends, at: usize, absence: Absence) -> Result<usize, Refusal>
     ensures { result ≡ absent (lined ends text.now) absence at }
 {
     match absence {
         Absence::MayEnd => {
             if token::eof(text, at) {
-                return Instead::Ended(at);
+                return Ok(at);
             }
-            Instead::Refused(refuse(text, ends, CLAUSE_EXPECTED, at))
+            Err(refuse(text, ends, Reason::ClauseExpected, at))
         }
-        Absence::NoClause => Instead::Refused(refuse(text, ends, CLAUSE_EXPECTED, at)),
-        Absence::NoLiterals => Instead::Refused(refuse(text, ends, LITERALS_EXPECTED, at)),
+        Absence::NoClause => Err(refuse(text, ends, Reason::ClauseExpected, at)),
+        Absence::NoLiterals => Err(refuse(text, ends, Reason::LiteralsExpected, at)),
     }
 }
 
@@ -120,77 +117,71 @@ pub fn no_clause(text: &[u8], ends: Ends, at: usize) -> Answered
     instead(absent(text, ends, at, Absence::MayEnd))
 }
 
-// What stands before the literals of a clause: they begin at a place, after its weight or group, 0 if it has neither, and with what it means if no number stands
-// there; or nothing does; or what is refused by a number, at the clause's own place. It holds no refusal: so it is small, and LLVM keeps it in registers.
-#[derive(Clone, Copy)]
-enum Begin {
-    Literals {
-        extra: u64,
-        place: usize,
-        absence: Absence,
-    },
-    Nothing,
-    Refused(u8),
+// Where the literals of a clause begin, after its weight or group, 0 if it has neither, and what it means if no number stands there.
+// A clause that does not begin has none, or a reason to refuse it at its own place. That holds no refusal: so it is small, and LLVM keeps it in registers.
+#[derive(Clone, Copy, Debug, PartialEq, Eq)]
+struct Begin {
+    extra: u64,
+    place: usize,
+    absence: Absence,
 }
 
 // The literals after a weight, a group or the word `h`.
 fn literals_after(text: &[u8], ends: Ends, extra: u64, next: usize) -> Begin
-    ensures { result ≡ Begin.Literals extra (linebreaks (lined ends text.now) next) Absence.NoLiterals }
+    ensures { result ≡ begin_at extra (linebreaks (lined ends text.now) next) Absence.NoLiterals }
 {
-    Begin::Literals {
+    Begin {
         extra,
         place: token::non_terminating_linebreaks(text, ends, next),
         absence: Absence::NoLiterals,
     }
 }
 
-// How a clause begins by its weight or group, which has a refusal number of its own where it is too big.
-fn start_by(text: &[u8], ends: Ends, big: u8, mark: Uint) -> Begin
-    ensures { BeginsBy (lined ends text.now) (λ absence at. start_by (lined ends text.now) big absence at mark) result }
+// How a clause begins by its weight or group, which has a reason of its own where it is too big.
+fn start_by(text: &[u8], ends: Ends, big: Reason, mark: Uint) -> Result<Option<Begin>, Reason>
+    ensures { BeginsBy (lined ends text.now) (λ absence at. start_by (lined ends text.now) (number_of big) absence at mark) result }
 {
     match mark {
-        Uint::Missing => Begin::Nothing,
-        Uint::TooBig => Begin::Refused(big),
-        Uint::Value(extra, next) => literals_after(text, ends, extra, next),
+        Uint::Missing => Ok(None),
+        Uint::TooBig => Err(big),
+        Uint::Value(extra, next) => Ok(Some(literals_after(text, ends, extra, next))),
     }
 }
 
 fn is_zero(weight: Uint) -> bool
     ensures { result ≡ is_zero weight }
 {
-    match weight {
-        Uint::Missing => false,
-        Uint::TooBig => false,
-        Uint::Value(n, _) => n == 0,
-    }
+    matches!(weight, Uint::Value(0, _))
 }
 
 // How a soft clause of the 2022 form begins by its weight.
-fn soft_by(text: &[u8], ends: Ends, weight: Uint) -> Begin
+fn soft_by(text: &[u8], ends: Ends, weight: Uint) -> Result<Option<Begin>, Reason>
     ensures { BeginsBy (lined ends text.now) (λ absence at. soft_by (lined ends text.now) absence at weight) result }
 {
     if is_zero(weight) {
-        return Begin::Refused(WEIGHT_ZERO);
+        return Err(Reason::WeightZero);
     }
-    start_by(text, ends, WEIGHT_TOO_BIG, weight)
+    start_by(text, ends, Reason::WeightTooBig, weight)
 }
 
 // How a clause of the 2022 form begins.
-fn start_in_2022(text: &[u8], ends: Ends, at: usize) -> Begin
+#[tactic(auto, using(dimacs::proofs::LinedTokens::p_lined, dimacs::proofs::LinedTokens::h_lined, dimacs::proofs::LinedTokens::uint_lined), unfolding(dimacs::specs::Clauses::start_in2022))]
+fn start_in_2022(text: &[u8], ends: Ends, at: usize) -> Result<Option<Begin>, Reason>
     ensures { BeginsAt (lined ends text.now) at (start_in2022 (lined ends text.now)) result }
 {
     if token::word(text, at, b"p") != at {
-        return Begin::Refused(HEADER_NOT_EXPECTED);
+        return Err(Reason::HeaderNotExpected);
     }
     let past = token::word(text, at, b"h");
     if past != at {
-        return literals_after(text, ends, HARD, past);
+        return Ok(Some(literals_after(text, ends, HARD, past)));
     }
     let weight = numeral::uint(text, at, LARGEST);
     soft_by(text, ends, weight)
 }
 
 // How a clause begins in its format.
+#[tactic(auto, using(dimacs::proofs::LinedTokens::uint_lined, dimacs::proofs::LinedTokens::braced_uint_lined), unfolding(dimacs::specs::Clauses::start_at))]
 fn start_at(
     text: &[u8],
     ends: Ends,
@@ -198,41 +189,44 @@ fn start_at(
     format: Format,
     groups: u64,
     absence: Absence,
-) -> Begin
+) -> Result<Option<Begin>, Reason>
     ensures { start_of (lined ends text.now) absence at result ≡ start_at (lined ends text.now) format groups absence at }
 {
     match format {
-        Format::Plain => Begin::Literals {
+        Format::Plain => Ok(Some(Begin {
             extra: 0,
             place: at,
             absence,
-        },
+        })),
         Format::Weighted => {
             let weight = numeral::uint(text, at, LARGEST);
-            start_by(text, ends, WEIGHT_TOO_BIG, weight)
+            start_by(text, ends, Reason::WeightTooBig, weight)
         }
         Format::Grouped => {
             let group = numeral::braced_uint(text, at, groups);
-            start_by(text, ends, GROUP_TOO_BIG, group)
+            start_by(text, ends, Reason::GroupTooBig, group)
         }
         Format::Weighted2022 => start_in_2022(text, ends, at),
     }
 }
 
 // What closes the line of a clause after its 0.
-fn closing(text: &[u8], ends: Ends, at: usize, extra: u64, count: usize) -> Answered
-    ensures { ByCount count (λ so. answered_of (closing (lined ends text.now) extra at so)) result }
+#[tactic(auto, unfolding(dimacs::specs::Clauses::closing))]
+fn closing(text: &[u8], ends: Ends, closed: Closed, extra: u64) -> Answered
+    ensures { ByCount closed.count (λ so. answered_of (closing (lined ends text.now) extra closed.next so)) result }
 {
+    let at = closed.next;
+    let count = closed.count;
     match token::interactive_end_of_line(text, ends, at) {
-        EndOfLine::Missing => Answered {
-            answer: Next::Refused {
-                refusal: refuse(text, ends, LINE_END_EXPECTED, at),
+        None => Answered {
+            answer: Err(Stopped {
+                refusal: refuse(text, ends, Reason::LineEndExpected, at),
                 count,
-            },
+            }),
             place: at,
         },
-        EndOfLine::Past(place) => Answered {
-            answer: Next::Clause { extra, count },
+        Some(place) => Answered {
+            answer: Ok(Some(Clause { extra, count })),
             place,
         },
     }
@@ -251,18 +245,14 @@ pub fn clause_at(
     ensures { Answers (clause_at (lined ends text.now) limits (length lits.old) format absence at) lits.old lits.new result }
 {
     match start_at(text, ends, at, format, limits.groups, absence) {
-        Begin::Nothing => instead(absent(text, ends, at, absence)),
-        Begin::Refused(number) => instead(Instead::Refused(refuse(text, ends, number, at))),
-        Begin::Literals {
-            extra,
-            place,
-            absence,
-        } => match clause_lits(text, ends, place, limits.literals, lits) {
-            Literals::Nothing => instead(absent(text, ends, place, absence)),
-            Literals::Closed { count, next } => closing(text, ends, next, extra, count),
-            Literals::Stopped { refusal, count } => Answered {
-                answer: Next::Refused { refusal, count },
-                place: refusal.place,
+        Ok(None) => instead(absent(text, ends, at, absence)),
+        Err(reason) => instead(Err(refuse(text, ends, reason, at))),
+        Ok(Some(begin)) => match clause_lits(text, ends, begin.place, limits.literals, lits) {
+            Ok(None) => instead(absent(text, ends, begin.place, begin.absence)),
+            Ok(Some(closed)) => closing(text, ends, closed, begin.extra),
+            Err(stopped) => Answered {
+                answer: Err(stopped),
+                place: stopped.refusal.place,
             },
         },
     }

@@ -9,7 +9,7 @@ ghost use Rattle.token.specs.Parts.{PastWord};
 ghost use Rattle.token.specs.Returns.{lone_return};
 ghost use Rattle.token.specs.Words.{WordAt};
 
-use dimacs::{EndOfLine, Ends, LONGEST_WORD, also_ends};
+use dimacs::{Ends, LONGEST_WORD, also_ends};
 
 // Whether the text has ended.
 pub fn eof(text: &[u8], at: usize) -> bool
@@ -138,17 +138,17 @@ pub fn interactive_newline(text: &[u8], ends: Ends, at: usize) -> usize
 }
 
 // Past a line end, or the end of the text.
-pub fn interactive_end_of_line(text: &[u8], ends: Ends, at: usize) -> EndOfLine
+pub fn interactive_end_of_line(text: &[u8], ends: Ends, at: usize) -> Option<usize>
     ensures { result ≡ end_of_line (lined ends text.now) at }
 {
     if text.len() <= at {
-        return EndOfLine::Past(at);
+        return Some(at);
     }
     let e = interactive_newline(text, ends, at);
     if e == at {
-        return EndOfLine::Missing;
+        return None;
     }
-    EndOfLine::Past(e)
+    Some(e)
 }
 
 // Past a line end and the blanks after it.
