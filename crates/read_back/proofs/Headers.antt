@@ -1,4 +1,5 @@
 -- The line of a header, read from the beginning of the text; and a text that begins with a clause has none. Assumes nothing.
+use Rattle.std.specs.Prelude.{Ok}
 use Prim.Native.Nat.{ℕ, ◌≤◌}
 use Prim.Native.Char.{code}
 use mathlib.Core.Bool.{true, false}
@@ -24,30 +25,30 @@ use Rattle.read_back.proofs.Clauses.{Opener, digits_open}
 parted : (n : ℕ) (t : List ℕ) → Parts (code " " ∷ (digits n ++ t)) (digits n ++ t)
 parted n t = spaced (digits n ++ t) (digits_open n t).bare
 
-header_end_written : {s : List ℕ} (h : Header) (t : List ℕ) → Ends s (code "\n" ∷ t) → header_end s h (start s (code "\n" ∷ t)) ≡ opening.Header h (start s t)
+header_end_written : {s : List ℕ} (h : Header) (t : List ℕ) → Ends s (code "\n" ∷ t) → header_end s h (start s (code "\n" ∷ t)) ≡ Ok (opening.Header h (start s t))
 unfolding header_end
 header_end_written h t k = rw (line_written t k)
 
 module _ {s : List ℕ} (v c : ℕ) (t : List ℕ) where
   third_written : (n : ℕ) → n ≤ largest → Ends s (digits n ++ (code "\n" ∷ t))
-      → third_there s v c (start s (digits n ++ (code "\n" ∷ t))) ≡ opening.Header (header_of v c n) (start s t)
+      → third_there s v c (start s (digits n ++ (code "\n" ∷ t))) ≡ Ok (opening.Header (header_of v c n) (start s t))
   unfolding third_there
   third_written n k h = rw (uint_written n (10 ∷ t) h largest line k) (header_end_written (header_of v c n) t (ends_past (digits n) (10 ∷ t) h))
 
   counted_third : (n : ℕ) → n ≤ largest → c ≤ largest → Ends s (digits c ++ (code " " ∷ (digits n ++ (code "\n" ∷ t))))
-      → clause_count s Weighted v (start s (digits c ++ (code " " ∷ (digits n ++ (code "\n" ∷ t))))) ≡ opening.Header (header_of v c n) (start s t)
+      → clause_count s Weighted v (start s (digits c ++ (code " " ∷ (digits n ++ (code "\n" ∷ t))))) ≡ Ok (opening.Header (header_of v c n) (start s t))
   unfolding clause_count third_count
   counted_third n e k h =
       let u = digits n ++ (10 ∷ t) in
       rw (uint_written c (32 ∷ u) h largest (parted n (10 ∷ t)) k) (third_written n e (ends_after (digits c) 32 u h))
 
   counted_last : c ≤ largest → Ends s (digits c ++ (code "\n" ∷ t))
-      → clause_count s Plain v (start s (digits c ++ (code "\n" ∷ t))) ≡ opening.Header (header_of v c 0) (start s t)
+      → clause_count s Plain v (start s (digits c ++ (code "\n" ∷ t))) ≡ Ok (opening.Header (header_of v c 0) (start s t))
   unfolding clause_count third_count
   counted_last k h = rw (uint_written c (10 ∷ t) h largest line k) (header_end_written (header_of v c 0) t (ends_past (digits c) (10 ∷ t) h))
 
   clauses_written : (f : Format) (n : ℕ) → ThirdFits f n → c ≤ largest → Ends s (digits c ++ (third_digits f n ++ (code "\n" ∷ t)))
-      → clause_count s f v (start s (digits c ++ (third_digits f n ++ (code "\n" ∷ t)))) ≡ opening.Header (header_of v c n) (start s t)
+      → clause_count s f v (start s (digits c ++ (third_digits f n ++ (code "\n" ∷ t)))) ≡ Ok (opening.Header (header_of v c n) (start s t))
   unfolding clause_count third_count
   clauses_written Plain n e k h = rw e (counted_last k h)
   clauses_written Weighted n e k h = counted_third n e k h
@@ -79,7 +80,7 @@ word_long Grouped k = omega arith
 word_long Weighted2022 k = unlike (sym k)
 
 module _ {s : List ℕ} (f : Format) (h : Header) (k : HeaderFits f h) (t : List ℕ) where
-  counts_written : Ends s (counts f h t) → variable_count s f (start s (counts f h t)) ≡ opening.Header h (start s t)
+  counts_written : Ends s (counts f h t) → variable_count s f (start s (counts f h t)) ≡ Ok (opening.Header h (start s t))
   unfolding variable_count
   counts_written e =
       let r = third_digits f h.third ++ (10 ∷ t) in
@@ -87,13 +88,13 @@ module _ {s : List ℕ} (f : Format) (h : Header) (k : HeaderFits f h) (t : List
       rw (uint_written h.variables (32 ∷ u) e ceiling (parted h.clauses r) k.variables)
       (clauses_written h.variables h.clauses t f h.third k.third k.clauses (ends_after (digits h.variables) 32 u e))
 
-  word_then_counts : Ends s (format_word f ++ (code " " ∷ counts f h t)) → after_p s f (start s (format_word f ++ (code " " ∷ counts f h t))) ≡ opening.Header h (start s t)
+  word_then_counts : Ends s (format_word f ++ (code " " ∷ counts f h t)) → after_p s f (start s (format_word f ++ (code " " ∷ counts f h t))) ≡ Ok (opening.Header h (start s t))
   unfolding after_p
   word_then_counts e =
       after_word (format_word f) (parted h.variables _) (word_long f k.there) e _ (variable_count s f)
       ∙ counts_written (ends_after (format_word f) 32 (counts f h t) e)
 
-  heading_opens : Ends s (heading f h t) → start s (heading f h t) ≡ 0 → opening_of s f ≡ opening.Header h (start s t)
+  heading_opens : Ends s (heading f h t) → start s (heading f h t) ≡ 0 → opening_of s f ≡ Ok (opening.Header h (start s t))
   unfolding opening_of
   heading_opens e z =
       let u = format_word f ++ (32 ∷ counts f h t) in
@@ -102,11 +103,11 @@ module _ {s : List ℕ} (f : Format) (h : Header) (k : HeaderFits f h) (t : List
 
 -- A text that begins with the line of a header opens with that header.
 pub header_opens : (f : Format) (h : Header) → HeaderFits f h → (t : List ℕ)
-    → opening_of (header_line f h ++ t) f ≡ opening.Header h (start (header_line f h ++ t) t)
+    → opening_of (header_line f h ++ t) f ≡ Ok (opening.Header h (start (header_line f h ++ t) t))
 header_opens f h k t = rw (line_on f h t) (heading_opens f h k t (ends_all (heading f h t)) (start_all (heading f h t)))
 
 -- A text that begins as a clause does opens with no header.
-pub none_opens : (f : Format) (s : List ℕ) → Opener (get_or s 0 0) → opening_of s f ≡ opening.NoHeader 0
+pub none_opens : (f : Format) (s : List ℕ) → Opener (get_or s 0 0) → opening_of s f ≡ Ok (opening.NoHeader 0)
 unfolding opening_of
 none_opens f s o =
     let z = start_all s in

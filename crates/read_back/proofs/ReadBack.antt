@@ -1,4 +1,5 @@
 -- What is written of a formula is read back: its header opens the text, and its lines are its clauses. Assumes nothing.
+use Rattle.std.specs.Prelude.{Ok}
 use Prim.Native.Nat.{ℕ, ◌≤◌}
 use mathlib.Core.List.{List, [], ◌∷◌, ◌++◌, map}
 use mathlib.Core.Option.{Option, some, none}
@@ -79,7 +80,7 @@ module _ (f : Format) (m : Mode) (room : ℕ) where
 pub never_refused : (f : Format) (m : Mode) (room : ℕ) (x : Formula) → Readable f m room x → Unrefused (text f m room (writing f x))
 never_refused f m room x k = subst⁻¹ Unrefused (read_back f m room x k) (record { opened = opened x.header; answers = answered x.clauses })
   where
-    opened : (o : Option Header) → Opened (opens f o)
+    opened : (o : Option Header) → Opened (Ok (opens f o))
     opened none = tt
     opened (some h) = tt
 

@@ -1,4 +1,5 @@
 -- The lines of clauses, read one after the other up to the end. Assumes nothing.
+use Rattle.std.specs.Prelude.{None}
 use Prim.Native.Nat.{ℕ, suc, ◌+◌, ◌≤◌}
 use mathlib.Core.Bool.{cond}
 use mathlib.Core.List.{List, [], ◌∷◌, ◌++◌, map}
@@ -16,7 +17,6 @@ use Rattle.dimacs.specs.Writing.{clause_line}
 use Rattle.dimacs.specs.declared.Format.{Format}
 use Rattle.dimacs.specs.declared.Absence.TheVariants.{MayEnd, NoClause}
 use Rattle.dimacs.specs.declared.Limits.{Limits}
-use Rattle.dimacs.specs.declared.Final.TheVariants as final
 use Rattle.dimacs.proofs.Tests.{chosen}
 use Rattle.dimacs.proofs.Order.{end_permitted, clause_none}
 use Rattle.dimacs.proofs.Texts.{answers_step}
@@ -63,20 +63,20 @@ module _ (s : List ℕ) (f : Format) (limits : Limits) (low : limits.literals �
       (λ z. rw (lt-leb limits.clauses count (⊎_elim (λ e. absurd (z e)) (λ e. omega arith) n)) (read NoClause))
 
   turn_by_lem : (at count : ℕ) (d : Answered) → next_clause s f limits room count at ≡ d
-      → turn s f limits room (progress at count final.Open) ≡ turn_by (settled (progress at count final.Open) d) d.answer
+      → turn s f limits room (progress at count None) ≡ turn_by (settled (progress at count None) d) d.answer
   unfolding turn answer_at
   turn_by_lem at count d e = rw e
 
   -- The clauses in their order, and the end.
   pub answers_written : (cs : List Clause) (count : ℕ) → Counts limits.clauses count (length cs) → Each (ClauseFits f limits room) cs → Ends s (clause_lines f cs)
-      → answers_from s f limits room (progress (start s (clause_lines f cs)) count final.Open) ≡ map answer_of cs ++ (ended ∷ [])
+      → answers_from s f limits room (progress (start s (clause_lines f cs)) count None) ≡ map answer_of cs ++ (ended ∷ [])
   unfolding clause_lines
   answers_written [] count n k h =
-      answers_step s f limits room (progress (start s []) count final.Open) ∙ rw (turn_by_lem (start s []) count _ (next_end count n h))
+      answers_step s f limits room (progress (start s []) count None) ∙ rw (turn_by_lem (start s []) count _ (next_end count n h))
   answers_written (c ∷ cs) count n k h =
       let t = clause_lines f cs in
       let at = start s (clause_line f c.extra c.literals ++ t) in
-      answers_step s f limits room (progress at count final.Open)
+      answers_step s f limits room (progress at count None)
       ∙ rw (turn_by_lem at count _ (next_line_lem c t count (length cs) n k.0 h))
       (ap (λ l. answer_of c ∷ l)
       (answers_written cs (one_more count) (one_more_lem limits.clauses count (length cs) n) k.1 (ends_past (clause_line f c.extra c.literals) t h)))

@@ -1,4 +1,5 @@
 -- What is written, read as tokens at the place where it begins. Assumes nothing.
+use Rattle.std.specs.Prelude.{Some}
 use Prim.Native.Nat.{ℕ, suc, ◌+◌, ◌≤◌, min}
 use Prim.Native.Char.{code}
 use mathlib.Core.Bool.{Bool, true, false, cond}
@@ -15,7 +16,6 @@ use Rattle.dimacs.specs.Tokens.{run, begins, unmoved, found, blanks, line_end, e
 use Rattle.dimacs.specs.Writing.{digits, signed_digits}
 use Rattle.dimacs.specs.declared.Uint.TheVariants as uint
 use Rattle.dimacs.specs.declared.Int.TheVariants as int
-use Rattle.dimacs.specs.declared.EndOfLine.TheVariants as end
 use Rattle.dimacs.proofs.Bytes.{no_blank}
 use Rattle.dimacs.proofs.Lines.{line_end_lf, line_end_no, end_at_line, newline_no, line_past_end, lines_stop, linebreaks_no}
 use Rattle.dimacs.proofs.Words.{word_ends_at, fixed_is, word_is}
@@ -146,7 +146,7 @@ module _ {s : List ℕ} (w : List ℕ) {t r : List ℕ} (p : Parts t r) (k : 1 �
   after_word none then = rw (word_written, ne_eqb (start s r) (start s (w ++ t)) word_on)
 
 -- A line end.
-pub line_written : {s : List ℕ} (r : List ℕ) → Ends s (code "\n" ∷ r) → end_of_line s (start s (code "\n" ∷ r)) ≡ end.Past (start s r)
+pub line_written : {s : List ℕ} (r : List ℕ) → Ends s (code "\n" ∷ r) → end_of_line s (start s (code "\n" ∷ r)) ≡ Some (start s r)
 line_written {s} r h =
     let e = start_past (10 ∷ []) r h in
     let at = start s (10 ∷ r) in

@@ -1,4 +1,6 @@
 -- Formulas, what is written of one, when that can be read, and what is then read: the formula.
+use Rattle.std.specs.Prelude.{Result, Ok, Err}
+use Rattle.dimacs.specs.declared.Refusal.{Refusal}
 use Rattle.std.specs.Prelude.{ℕ, ◌≤◌, List, [], ◌∷◌, ◌++◌, map, true, ◌≡◌, ◌⊎◌, length, ℤ, nat_abs}
 use Rattle.std.proofs.Math.Option.{Option, some, none}
 use Rattle.dimacs.specs.Leniency.{Each}
@@ -50,7 +52,7 @@ answer_of c = clause c.extra c.literals
 
 -- What is to be read of a formula: its header, its clauses in their order, and the end.
 abbrev pub reading : Format → Formula → Text
-reading f x = record { opened = opens f x.header; answers = map answer_of x.clauses ++ (ended ∷ []) }
+reading f x = record { opened = Ok (opens f x.header); answers = map answer_of x.clauses ++ (ended ∷ []) }
 
 -- The limits that apply: those of the header, if there is one and the mode applies them.
 abbrev pub limits_for : Format → Mode → Option Header → Limits
@@ -106,10 +108,10 @@ abbrev pub ReadsBack : Format → Mode → ℕ → Formula → Type 0
 ReadsBack f m room x = text f m room (writing f x) ≡ reading f x
 
 -- An opening that is no refusal.
-abbrev pub Opened : Opening → Type 0
-Opened (opening.Header h at) = Unit {0}
-Opened (opening.NoHeader at) = Unit {0}
-Opened (opening.Refused r) = ⊥
+abbrev pub Opened : Result Opening Refusal → Type 0
+Opened (Ok (opening.Header h at)) = Unit {0}
+Opened (Ok (opening.NoHeader at)) = Unit {0}
+Opened (Err r) = ⊥
 
 -- An answer that is no refusal.
 abbrev pub Told : Answer → Type 0
