@@ -1,5 +1,6 @@
 -- Answers as words. What is answered goes by 0 where nothing is there to be read (no header, the end), 1 where something is (a header, a clause, a verdict, a line), and 2 for a refusal.
-use Rattle.std.specs.Prelude.{ℕ, List, [], ◌∷◌}
+use Rattle.std.specs.Prelude.{ℕ, List, [], ◌∷◌, Result, Ok, Err}
+use Rattle.dimacs.specs.declared.Refusal.{Refusal}
 use Rattle.dimacs.specs.declared.Spot.{Spot}
 use Rattle.dimacs.specs.declared.Header.{Header}
 use Rattle.dimacs.specs.declared.Opening.{Opening}
@@ -13,8 +14,6 @@ use Rattle.log_line.specs.Answers as logs
 use Rattle.log_line.specs.declared.Log.{Log}
 use Rattle.log_line.specs.declared.Log.TheVariants as log
 use Rattle.writer.specs.Answers as writers
-use Rattle.writer.specs.declared.Written.{Written}
-use Rattle.writer.specs.declared.Written.TheVariants as written
 use Rattle.formula.specs.Openings as openings
 
 -- The words of an answer: number, place, line and column of the refusal, all 0 where nothing is refused, and then its own.
@@ -77,10 +76,10 @@ abbrev pub log_words : Log → List ℕ
 log_words l = told_words (logs.number_in l) (logs.place_in l) (logs.spot_in l) (logs.k_in l ∷ verdict_in l ∷ [])
 
 -- A line, or a refusal.
-abbrev pub written_kind : Written → ℕ
-written_kind (written.Line n) = 1
-written_kind (written.Refused r) = 2
+abbrev pub written_kind : Result ℕ Refusal → ℕ
+written_kind (Ok n) = 1
+written_kind (Err r) = 2
 
 -- A writer's answer: the refusal, and the length of the line.
-abbrev pub written_words : Written → List ℕ
+abbrev pub written_words : Result ℕ Refusal → List ℕ
 written_words w = told_words (writers.number_in w) (writers.place_in w) (writers.spot_in w) (writers.line_length w ∷ [])

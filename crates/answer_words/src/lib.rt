@@ -5,9 +5,8 @@ ghost use Rattle.std.specs.Prelude.{◌≡◌};
 ghost use Rattle.answer_words.specs.Words.{opening_kind, opening_words, next_kind, next_words, verdict_kind, log_kind, log_words, written_kind, written_words};
 
 use clause::Next;
-use dimacs::{Opening, Verdict};
+use dimacs::{Opening, Refusal, Verdict};
 use log_line::Log;
-use writer::Written;
 
 // The words of how a text opens: after the first four its counts of variables and clauses, and the third.
 pub const OPENING_WORDS: usize = 7;
@@ -125,21 +124,21 @@ pub fn log_words(l: Log) -> [u64; LOG_WORDS]
 }
 
 // Whether a line was written or refused.
-pub fn written_kind(w: Written) -> u32
+pub fn written_kind(w: Result<usize, Refusal>) -> u32
     ensures { result ≡ written_kind w }
 {
     match w {
-        Written::Line(_) => 1,
-        Written::Refused(_) => 2,
+        Ok(_) => 1,
+        Err(_) => 2,
     }
 }
 
-pub fn written_words(w: Written) -> [u64; WRITTEN_WORDS]
+pub fn written_words(w: Result<usize, Refusal>) -> [u64; WRITTEN_WORDS]
     ensures { result ≡ written_words w }
 {
     match w {
-        Written::Line(length) => [0, 0, 0, 0, length as u64],
-        Written::Refused(refusal) => [
+        Ok(length) => [0, 0, 0, 0, length as u64],
+        Err(refusal) => [
             refusal.number as u64,
             refusal.place as u64,
             refusal.line as u64,

@@ -4,59 +4,51 @@
 #![tactic(auto)]
 
 ghost use Rattle.std.specs.Prelude.{◌≡◌, length};
-ghost use Rattle.dimacs.specs.Names.{kind_of};
 ghost use Rattle.dimacs.specs.Header.{header_of};
 ghost use Rattle.dimacs.specs.Writing.{write_header, write_clause, write_hard_clause};
-ghost use Rattle.writer.specs.Answers.{written_of, Writes};
-ghost use Rattle.by_number.specs.Lines.{no_line, line_by, LeavesLine};
+ghost use Rattle.writer.specs.Answers.{Writes};
+ghost use Rattle.by_number.specs.Lines.{format_named, line_by, LeavesLine};
+ghost use Rattle.answer_words.specs.Words.{written_kind, written_words};
 
 use answer_words::{WRITTEN_WORDS, written_kind, written_words};
-use dimacs::{FORMAT_OR_MODE_UNKNOWN, Header, Kind, kind_of, refuse_call};
+use dimacs::{FORMAT_OR_MODE_UNKNOWN, Format, Header, Kind, Refusal, kind_of, refuse_call};
 use numbers::narrowed;
-use writer::Written;
 
-// What the number of a format names in mode 0, as writers have no mode.
-fn named(format: u32) -> Kind
-    ensures { result ≡ kind_of format 0 }
+// The format of clauses that a number names in mode 0, as writers have no mode, or refusal 26.
+fn named(format: u32) -> Result<Format, Refusal>
+    ensures { result ≡ format_named format }
 {
-    kind_of(narrowed(format as u64), 0)
+    match kind_of(narrowed(format as u64), 0) {
+        Kind::Clauses(format, _) => Ok(format),
+        _ => Err(refuse_call(FORMAT_OR_MODE_UNKNOWN, 0)),
+    }
 }
 
-// Refusal 26: no format of clauses is named.
-fn unnamed() -> Written
-    ensures { result ≡ written_of no_line }
-{
-    Written::Refused(refuse_call(FORMAT_OR_MODE_UNKNOWN, 0))
-}
-
-fn header_line(format: u32, header: Header, out: &mut [u8]) -> Written
+fn header_line(format: u32, header: Header, out: &mut [u8]) -> Result<usize, Refusal>
     ensures { Writes (line_by format (λ f. write_header f header (length out.old))) out.old out.new result }
 {
-    match named(format) {
-        Kind::Clauses(format, _) => writer::write_header(format, header, out),
-        Kind::Log(_) => unnamed(),
-        Kind::Unknown => unnamed(),
-    }
+    writer::write_header(named(format)?, header, out)
 }
 
-fn clause_line(format: u32, extra: u64, lits: &[i32], out: &mut [u8]) -> Written
+fn clause_line(format: u32, extra: u64, lits: &[i32], out: &mut [u8]) -> Result<usize, Refusal>
     ensures { Writes (line_by format (λ f. write_clause f extra lits.now (length out.old))) out.old out.new result }
 {
-    match named(format) {
-        Kind::Clauses(format, _) => writer::write_clause(format, extra, lits, out),
-        Kind::Log(_) => unnamed(),
-        Kind::Unknown => unnamed(),
-    }
+    writer::write_clause(named(format)?, extra, lits, out)
 }
 
-fn hard_clause_line(format: u32, lits: &[i32], out: &mut [u8]) -> Written
+fn hard_clause_line(format: u32, lits: &[i32], out: &mut [u8]) -> Result<usize, Refusal>
     ensures { Writes (line_by format (λ f. write_hard_clause f lits.now (length out.old))) out.old out.new result }
 {
-    match named(format) {
-        Kind::Clauses(format, _) => writer::write_hard_clause(format, lits, out),
-        Kind::Log(_) => unnamed(),
-        Kind::Unknown => unnamed(),
-    }
+    writer::write_hard_clause(named(format)?, lits, out)
+}
+
+// What is left of a writer's answer: its words, and the number that says what they tell.
+fn leave(written: Result<usize, Refusal>, answer: &mut [u64; WRITTEN_WORDS]) -> u32
+    ensures kind { result ≡ written_kind written }
+    ensures words { answer.new ≡ written_words written }
+{
+    *answer = written_words(written);
+    written_kind(written)
 }
 
 // The line of a header at the output's front: 1 for a line, 2 for a refusal. The array holds the refusal's number and place, two zeros, and the length of the line.
@@ -75,9 +67,7 @@ pub fn latchtwig_write_header(
         clauses,
         third,
     };
-    let written = header_line(format, header, out);
-    *answer = written_words(written);
-    written_kind(written)
+    leave(header_line(format, header, out), answer)
 }
 
 // The line of a clause at the output's front, answered in the same way. In the 2022 form it is soft, and its weight is not 0.
@@ -90,9 +80,7 @@ pub fn latchtwig_write_clause(
 ) -> u32
     ensures { LeavesLine (line_by format (λ f. write_clause f extra lits.now (length out.old))) out.old out.new answer.new result }
 {
-    let written = clause_line(format, extra, lits, out);
-    *answer = written_words(written);
-    written_kind(written)
+    leave(clause_line(format, extra, lits, out), answer)
 }
 
 // The line of a hard clause at the output's front, answered in the same way. The 2022 form alone has them.
@@ -104,7 +92,5 @@ pub fn latchtwig_write_hard_clause(
 ) -> u32
     ensures { LeavesLine (line_by format (λ f. write_hard_clause f lits.now (length out.old))) out.old out.new answer.new result }
 {
-    let written = hard_clause_line(format, lits, out);
-    *answer = written_words(written);
-    written_kind(written)
+    leave(hard_clause_line(format, lits, out), answer)
 }

@@ -1,16 +1,19 @@
 -- Whole lines put, or refused. Assumes nothing.
-use Prim.Native.Nat.{ℕ, ◌+◌, ◌≤◌, ◌<◌}
-use mathlib.Core.Bool.{true, false, cond, ◌&&◌}
+use Prim.Native.Nat.{ℕ, ◌+◌, ◌-◌, ◌≤◌}
+use mathlib.Core.Bool.{Bool, true, false, cond, ◌&&◌}
 use mathlib.Core.List.{List, ◌++◌, append_assoc}
 use mathlib.Core.Path.{◌≡◌, refl, ap, sym, ◌∙◌}
 use native.Mathlib.Omega.{arith}
-use borrow.Author.Tests.{le-leb, lt-leb, leb-true}
+use borrow.Author.Tests.{le-leb, lt-leb, leb-true, leb-false}
 use lib.Dec.{leb, eqb}
 use lib.IntN.{ℤ}
 use lib.ListN.{length, drop}
 use lib.Seq.{sets-eq}
+use Rattle.std.specs.Prelude.{Result, Ok, Err, IsErr, not, if◌then◌else◌}
+use Rattle.std.specs.Result.{IsErrAnd}
+use Rattle.std.proofs.lemmas.Result.{err_from_is_err_and}
 use Rattle.dimacs.specs.Bytes.{bytes}
-use Rattle.dimacs.specs.Names.{Reason, number_of, call_refusal, ceiling, hard}
+use Rattle.dimacs.specs.Names.{Reason, number_of, ceiling, hard}
 use Rattle.dimacs.specs.Spots.{nowhere}
 use Rattle.dimacs.specs.Tokens.{run}
 use Rattle.dimacs.specs.Header.{has_header}
@@ -23,10 +26,8 @@ use Rattle.dimacs.specs.declared.Refusal.{Refusal}
 use Rattle.dimacs.proofs.Tests.{tested, chosen}
 use Rattle.decimals.specs.Pieces.{PutAt}
 use Rattle.measures.specs.Lines.{header_start, header_count}
-use Rattle.measures.proofs.Lines.{header_to_come}
+use Rattle.measures.proofs.Lines.{header_to_come, clause_long}
 use Rattle.writer.specs.Answers.{Writes, written_of, bytes_written, number_in, place_in, spot_in, line_length}
-use Rattle.writer.specs.declared.Written.{Written}
-use Rattle.writer.specs.declared.Written.TheVariants.{Line, Refused}
 
 -- A clause's line in its pieces, as they are put.
 pub clause_put : (f : Format) (extra : ℕ) (so : List ℤ) → clause_line f extra so ≡ lead f extra ++ items so ++ bytes "0\n"
@@ -40,41 +41,54 @@ regrouped a b c d e = simp append_assoc
 pub header_put : (f : Format) (h : Header) → header_line f h ≡ header_start f ++ header_count h.variables ++ header_count h.clauses ++ third_digits f h.third ++ bytes "\n"
 header_put f h = header_to_come f h ∙ regrouped (header_start f) (header_count h.variables) (header_count h.clauses) (third_digits f h.third) (bytes "\n")
 
--- A refusal leaves the output as it was.
-pub unwritten_at : {d : def.Written} {old : List ℕ} {why : Refusal} {r : Written} → d ≡ def.unwritten why → r ≡ Refused why → Writes d old old r
-unwritten_at e a = rw e (record { answer = a; output = refl })
-
 -- A line that is put stands at the output's front, and what was behind it is as it was.
-pub written_at : {d : def.Written} {line old new : List ℕ} {r : ℕ} → d ≡ def.fits (length old) line → length line ≤ length old → PutAt 0 line old new r → Writes d old new (Line r)
-written_at {d} {line} {old} {new} {r} e l h =
+pub written_at : {line old new : List ℕ} {r : ℕ} → length line ≤ length old → PutAt 0 line old new r → Writes (def.written line) old new (Ok r)
+written_at {line} {old} {new} {r} l h =
     let k : 0 + length line ≡ length line = omega arith in
-    rw (e, le-leb (length line) (length old) l) (record { answer = ap Line (h.past ∙ k); output = h.output ∙ sets-eq line old 0 (omega (arith, l)) ∙ ap (λ n. line ++ drop n old) k })
+    record { answer = ap Ok (h.past ∙ k); output = h.output ∙ sets-eq line old 0 (omega (arith, l)) ∙ ap (λ n. line ++ drop n old) k }
 
-pub too_long : {d : def.Written} (line : List ℕ) {old : List ℕ} {r : Written} → d ≡ def.fits (length old) line → length old < length line → r ≡ Refused (call_refusal Reason.output_too_short 0) → Writes d old old r
-too_long line {old} e l a = unwritten_at (e ∙ rw (lt-leb (length line) (length old) l)) a
+-- What a test before anything is written comes to.
+abbrev Tested : Bool → Refusal → Result (Unit {0}) Refusal → Type 0
+Tested t why a = a ≡ (if t then Ok tt else Err why)
 
--- What is judged before the output's length.
-module _ (f : Format) (extra : ℕ) (so : List ℤ) (room : ℕ) {good : ℕ} (e : good ≡ run is_literal so) where
-  pub clause_bad : good < length so → def.write_line f extra so room ≡ def.unwritten (call_refusal Reason.literal_not_writable good)
-  unfolding def.write_line
-  clause_bad h = rw (sym e, lt-leb (length so) good h)
+-- Where it fails, its refusal is answered, and the output is as it was.
+pub refused : (t : Bool) (why : Refusal) (d : def.Written) {old : List ℕ} {e : Refusal} {r : Result ℕ Refusal} → Tested t why (Err e) → IsErr r × IsErrAnd r (λ y. y ≡ e)
+    → Writes (cond t d (def.unwritten why)) old old r
+refused true why d a h = absurd cc
+refused false why d {r = r} a h = let p = err_from_is_err_and r h.1 in record { answer = cc; output = refl }
 
-  pub clause_good : length so ≤ good → def.write_line f extra so room ≡ def.fits room (clause_line f extra so)
-  unfolding def.write_line
-  clause_good h = rw (sym e, le-leb (length so) good h)
+-- Where it holds, the call comes to what the rest of it does.
+pub allowed : (t : Bool) (why : Refusal) {d : def.Written} {old new : List ℕ} {x : Unit {0}} {r : Result ℕ Refusal} → Tested t why (Ok x) → Writes d old new r → Writes (cond t d (def.unwritten why)) old new r
+allowed true why a h = h
+allowed false why a h = absurd cc
 
-module _ (f : Format) (h : Header) (room : ℕ) where
-  pub header_none : has_header f ≡ false → def.write_header f h room ≡ def.unwritten (call_refusal Reason.format_or_mode_unknown 0)
-  unfolding def.write_header
-  header_none k = rw k
+pub holds : (t : Bool) (why : Refusal) {x : Unit {0}} → Tested t why (Ok x) → t ≡ true
+holds true why a = refl
+holds false why a = absurd cc
 
-  pub header_bad : has_header f ≡ true → ceiling < h.variables → def.write_header f h room ≡ def.unwritten (call_refusal Reason.variable_count_too_big 0)
-  unfolding def.write_header
-  header_bad k l = rw (k, lt-leb h.variables ceiling l)
+turned : (t : Bool) (a b : def.Written) → cond t a b ≡ cond (not t) b a
+turned true a b = refl
+turned false a b = refl
 
-  pub header_good : has_header f ≡ true → h.variables ≤ ceiling → def.write_header f h room ≡ def.fits room (header_line f h)
-  unfolding def.write_header
-  header_good k l = rw (k, le-leb h.variables ceiling l)
+-- The same where a test must fail.
+pub refused_not : (t : Bool) (why : Refusal) (d : def.Written) {old : List ℕ} {e : Refusal} {r : Result ℕ Refusal} → Tested (not t) why (Err e) → IsErr r × IsErrAnd r (λ y. y ≡ e)
+    → Writes (cond t (def.unwritten why) d) old old r
+refused_not t why d a h = rw (turned t (def.unwritten why) d) (refused (not t) why d a h)
+
+pub allowed_not : (t : Bool) (why : Refusal) {d : def.Written} {old new : List ℕ} {x : Unit {0}} {r : Result ℕ Refusal} → Tested (not t) why (Ok x) → Writes d old new r
+    → Writes (cond t (def.unwritten why) d) old new r
+allowed_not t why {d = d} a h = rw (turned t (def.unwritten why) d) (allowed (not t) why a h)
+
+-- A clause's line fits the output exactly if what is around its literals fits what these leave.
+module _ (f : Format) (extra : ℕ) (so : List ℤ) (room : ℕ) {around left : ℕ} (a : around ≡ length (lead f extra) + 2) (l : left ≡ room - length (items so)) where
+  pub left_fits : around ≤ left → length (clause_line f extra so) ≤ room
+  left_fits h = omega (arith, h, a, l, clause_long f extra so)
+
+  pub left_tested : leb around left ≡ leb (length (clause_line f extra so)) room
+  left_tested =
+      tested (leb around left)
+      (λ t. t ∙ sym (le-leb (length (clause_line f extra so)) room (left_fits (leb-true around left t))))
+      (λ t. t ∙ sym (lt-leb (length (clause_line f extra so)) room (omega (arith, a, l, clause_long f extra so, leb-false around left t))))
 
 -- What is written is no longer than the output.
 abbrev Within : ℕ → def.Written → Type 0
@@ -106,7 +120,7 @@ length-told (def.written line) = refl
 length-told (def.unwritten r) = refl
 
 -- So is the length that is answered.
-pub line_within : {d : def.Written} {old new : List ℕ} {r : Written} → Within (length old) d → Writes d old new r → line_length r ≤ length old
+pub line_within : {d : def.Written} {old new : List ℕ} {r : Result ℕ Refusal} → Within (length old) d → Writes d old new r → line_length r ≤ length old
 line_within {d} h w = rw (w.answer, length-told d) h
 
 -- A refused header is at place 0.
@@ -159,5 +173,5 @@ unfolding def.write_hard_clause
 hard_clause_nowhere f so room = chosen Nowhere (has_hard f) (λ _. line_nowhere f hard so room) (λ _. refl)
 
 -- Two answers that the contract permits are equal, and leave the same output.
-pub one_writing : {d : def.Written} {old n₁ n₂ : List ℕ} {r₁ r₂ : Written} → Writes d old n₁ r₁ → Writes d old n₂ r₂ → (r₁ ≡ r₂) × (n₁ ≡ n₂)
+pub one_writing : {d : def.Written} {old n₁ n₂ : List ℕ} {r₁ r₂ : Result ℕ Refusal} → Writes d old n₁ r₁ → Writes d old n₂ r₂ → (r₁ ≡ r₂) × (n₁ ≡ n₂)
 one_writing a b = (a.answer ∙ sym b.answer, a.output ∙ sym b.output)

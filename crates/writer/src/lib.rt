@@ -3,7 +3,7 @@
 // A line is written whole or not at all: a writer answers the length of its line, or a refusal with the output untouched.
 #![tactic(auto)]
 
-ghost use Rattle.std.specs.Prelude.{◌≡◌, ◌+◌, ◌≤◌, eqb, length, ◌&&◌};
+ghost use Rattle.std.specs.Prelude.{◌≡◌, ◌+◌, ◌≤◌, eqb, length, ◌&&◌, if◌then◌else◌};
 ghost use Rattle.dimacs.specs.Clauses.{has_hard};
 ghost use Rattle.dimacs.specs.Names.{call_numbered};
 ghost use Rattle.dimacs.specs.Writing.{items, lead, third_digits, header_line, clause_line, write_header, write_line, write_clause, write_hard_clause};
@@ -11,7 +11,6 @@ ghost use Rattle.dimacs.specs.declared.Format.{Format};
 ghost use Rattle.decimals.specs.Pieces.{PutAt, if_room};
 ghost use Rattle.measures.specs.Lines.{header_start};
 ghost use Rattle.writer.specs.Answers.{Writes};
-ghost use Rattle.writer.specs.declared.Written.TheVariants.{Refused};
 
 use decimals::{put_digits, put_digits_after, put_literal};
 use dimacs::{
@@ -19,15 +18,6 @@ use dimacs::{
     Refusal, VARIABLE_COUNT_TOO_BIG, WEIGHT_ZERO, has_hard, has_header, has_third, refuse_call,
 };
 use measures::{around_length, header_length, left_after, writable};
-
-// What a writer answers.
-#[derive(Clone, Copy)]
-pub enum Written {
-    // The line stands at the output's front, and is so long.
-    Line(usize),
-    // Nothing was written.
-    Refused(Refusal),
-}
 
 // Literals, each with the space after it.
 fn put_literals(out: &mut [u8], at: usize, lits: &[i32]) -> usize
@@ -102,55 +92,53 @@ fn put_clause(out: &mut [u8], format: Format, extra: u64, lits: &[i32]) -> usize
     past + 2
 }
 
-// Nothing was written, for a reason that no text is at fault for.
-fn unwritten(number: u8, index: usize) -> Written
-    ensures { result ≡ Refused (call_numbered number index) }
+// Nothing is written where a test fails, for a reason that no text is at fault for.
+fn refuse_unless(holds: bool, number: u8, index: usize) -> Result<(), Refusal>
+    ensures { result ≡ (if holds then Ok tt else Err (call_numbered number index)) }
 {
-    Written::Refused(refuse_call(number, index))
+    if holds {
+        return Ok(());
+    }
+    Err(refuse_call(number, index))
 }
 
 // The line of a clause, hard if the format has hard clauses and `extra` says so.
-fn write_line(format: Format, extra: u64, lits: &[i32], out: &mut [u8]) -> Written
+fn write_line(format: Format, extra: u64, lits: &[i32], out: &mut [u8]) -> Result<usize, Refusal>
     ensures { Writes (write_line format extra lits.now (length out.old)) out.old out.new result }
 {
     let good = writable(lits);
-    if good < lits.len() {
-        return unwritten(LITERAL_NOT_WRITABLE, good);
-    }
-    if around_length(format, extra) <= left_after(out.len(), lits) {
-        return Written::Line(put_clause(out, format, extra, lits));
-    }
-    unwritten(OUTPUT_TOO_SHORT, 0)
+    refuse_unless(lits.len() <= good, LITERAL_NOT_WRITABLE, good)?;
+    let room = left_after(out.len(), lits);
+    refuse_unless(around_length(format, extra) <= room, OUTPUT_TOO_SHORT, 0)?;
+    Ok(put_clause(out, format, extra, lits))
 }
 
 // Whether a clause of the 2022 form has the weight 0, which no soft one may have.
 fn lacks_weight(format: Format, extra: u64) -> bool
     ensures { result ≡ has_hard format && eqb extra 0 }
 {
-    if has_hard(format) {
-        return extra == 0;
-    }
-    false
+    has_hard(format) && extra == 0
 }
 
 // The line of a clause: its weight or group if the format has one, the literals, the 0 and the line end. In the 2022 form it is soft, and its weight is not 0.
-pub fn write_clause(format: Format, extra: u64, lits: &[i32], out: &mut [u8]) -> Written
+pub fn write_clause(
+    format: Format,
+    extra: u64,
+    lits: &[i32],
+    out: &mut [u8],
+) -> Result<usize, Refusal>
     ensures { Writes (write_clause format extra lits.now (length out.old)) out.old out.new result }
 {
-    if lacks_weight(format, extra) {
-        return unwritten(WEIGHT_ZERO, 0);
-    }
+    refuse_unless(!lacks_weight(format, extra), WEIGHT_ZERO, 0)?;
     write_line(format, extra, lits, out)
 }
 
 // The line of a hard clause, which the 2022 form alone has.
-pub fn write_hard_clause(format: Format, lits: &[i32], out: &mut [u8]) -> Written
+pub fn write_hard_clause(format: Format, lits: &[i32], out: &mut [u8]) -> Result<usize, Refusal>
     ensures { Writes (write_hard_clause format lits.now (length out.old)) out.old out.new result }
 {
-    if has_hard(format) {
-        return write_line(format, HARD, lits, out);
-    }
-    unwritten(FORMAT_OR_MODE_UNKNOWN, 0)
+    refuse_unless(has_hard(format), FORMAT_OR_MODE_UNKNOWN, 0)?;
+    write_line(format, HARD, lits, out)
 }
 
 // What a header begins with, up to its word.
@@ -189,17 +177,19 @@ fn put_header(out: &mut [u8], format: Format, header: Header) -> usize
 }
 
 // The line of a header.
-pub fn write_header(format: Format, header: Header, out: &mut [u8]) -> Written
+pub fn write_header(format: Format, header: Header, out: &mut [u8]) -> Result<usize, Refusal>
     ensures { Writes (write_header format header (length out.old)) out.old out.new result }
 {
-    if !has_header(format) {
-        return unwritten(FORMAT_OR_MODE_UNKNOWN, 0);
-    }
-    if (CEILING as u64) < header.variables {
-        return unwritten(VARIABLE_COUNT_TOO_BIG, 0);
-    }
-    if header_length(format, header) <= out.len() {
-        return Written::Line(put_header(out, format, header));
-    }
-    unwritten(OUTPUT_TOO_SHORT, 0)
+    refuse_unless(has_header(format), FORMAT_OR_MODE_UNKNOWN, 0)?;
+    refuse_unless(
+        header.variables <= CEILING as u64,
+        VARIABLE_COUNT_TOO_BIG,
+        0,
+    )?;
+    refuse_unless(
+        header_length(format, header) <= out.len(),
+        OUTPUT_TOO_SHORT,
+        0,
+    )?;
+    Ok(put_header(out, format, header))
 }

@@ -1,16 +1,10 @@
 -- `by_number::clause_line` meets its contract, by what the number of the format names. Assumes nothing.
-use mathlib.Core.Path.{refl, sym, ◌∙◌}
+use Rattle.dimacs.specs.Names.{kind_of}
 use Rattle.by_number.proofs.Left.{in_format, in_none}
 use Rattle.by_number.proofs.clause_line.Goals as goal
 
-pub returns-in-Clauses : goal.returns-in-Clauses
-returns-in-Clauses c = let k = sym c.named.ensures ∙ c.in-Clauses.is in
-    in_format _ _ k c.write_clause.ensures
+pub returns-in_err-named : goal.returns-in_err-named
+returns-in_err-named c = in_none (kind_of c.args.format 0) _ c.in_err-named.ensures c.from_residual.ensures
 
-pub returns-in-Log : goal.returns-in-Log
-returns-in-Log c = let k = sym c.named.ensures ∙ c.in-Log.is in
-    in_none _ _ k refl c.unnamed.ensures
-
-pub returns-in-Unknown : goal.returns-in-Unknown
-returns-in-Unknown c = let k = sym c.named.ensures ∙ c.in-Unknown.is in
-    in_none _ _ k refl c.unnamed-in-Unknown.ensures
+pub returns : goal.returns
+returns c = in_format (kind_of c.args.format 0) _ c.in_ok-named.ensures c.write_clause.ensures

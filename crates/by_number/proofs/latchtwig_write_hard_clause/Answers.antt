@@ -3,4 +3,4 @@ use Rattle.by_number.proofs.Left.{leaves}
 use Rattle.by_number.proofs.latchtwig_write_hard_clause.Goals as goal
 
 pub returns : goal.returns
-returns c = leaves _ c.hard_clause_line-written.ensures c.written_words.ensures c.written_kind.ensures
+returns c = leaves _ c.hard_clause_line.ensures c.leave.ensures.words c.leave.ensures.kind
