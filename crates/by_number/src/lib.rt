@@ -7,21 +7,30 @@ ghost use Rattle.std.specs.Prelude.{◌≡◌, length};
 ghost use Rattle.dimacs.specs.Header.{header_of};
 ghost use Rattle.dimacs.specs.Writing.{write_header, write_clause, write_hard_clause};
 ghost use Rattle.writer.specs.Answers.{Writes};
-ghost use Rattle.by_number.specs.Lines.{format_named, line_by, LeavesLine};
+ghost use Rattle.by_number.specs.Lines.{format_of, format_named, line_by, LeavesLine};
 ghost use Rattle.answer_words.specs.Words.{written_kind, written_words};
 
 use answer_words::{WRITTEN_WORDS, written_kind, written_words};
-use dimacs::{FORMAT_OR_MODE_UNKNOWN, Format, Header, Kind, Refusal, kind_of, refuse_call};
+use dimacs::{Format, Header, Kind, Reason, Refusal, kind_of, refuse_call};
 use numbers::narrowed;
+
+// The format of a text of clauses.
+fn format_of(kind: Kind) -> Option<Format>
+    ensures { result ≡ format_of kind }
+{
+    match kind {
+        Kind::Clauses(format, _) => Some(format),
+        Kind::Log(_) => None,
+    }
+}
 
 // The format of clauses that a number names in mode 0, as writers have no mode, or refusal 26.
 fn named(format: u32) -> Result<Format, Refusal>
     ensures { result ≡ format_named format }
 {
-    match kind_of(narrowed(format as u64), 0) {
-        Kind::Clauses(format, _) => Ok(format),
-        _ => Err(refuse_call(FORMAT_OR_MODE_UNKNOWN, 0)),
-    }
+    kind_of(narrowed(u64::from(format)), 0)
+        .and_then(format_of)
+        .ok_or(refuse_call(Reason::FormatOrModeUnknown, 0))
 }
 
 fn header_line(format: u32, header: Header, out: &mut [u8]) -> Result<usize, Refusal>

@@ -7,7 +7,7 @@ ghost use Rattle.dimacs.specs.Writing.{items, lead, third_digits, is_literal, he
 ghost use Rattle.measures.specs.Lines.{header_start};
 
 use decimals::{digit_count, literal_length};
-use dimacs::{CEILING, Format, HARD, Header, has_third, magnitude};
+use dimacs::{CEILING, Format, HARD, Header, magnitude};
 
 fn is_literal(literal: i32) -> bool
     ensures { result ≡ is_literal literal }
@@ -81,7 +81,7 @@ fn start_length(format: Format) -> usize
 fn third_length(format: Format, third: u64) -> usize
     ensures { result ≡ length (third_digits format third) }
 {
-    if has_third(format) {
+    if format.has_third() {
         return digit_count(third) + 1;
     }
     0

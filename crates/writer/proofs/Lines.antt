@@ -13,7 +13,8 @@ use Rattle.std.specs.Prelude.{Result, Ok, Err, IsErr, not, if◌then◌else◌}
 use Rattle.std.specs.Result.{IsErrAnd}
 use Rattle.std.proofs.lemmas.Result.{err_from_is_err_and}
 use Rattle.dimacs.specs.Bytes.{bytes}
-use Rattle.dimacs.specs.Names.{Reason, number_of, ceiling, hard}
+use Rattle.dimacs.specs.declared.Reason.{Reason}
+use Rattle.dimacs.specs.Names.{number_of, ceiling, hard}
 use Rattle.dimacs.specs.Spots.{nowhere}
 use Rattle.dimacs.specs.Tokens.{run}
 use Rattle.dimacs.specs.Header.{has_header}
@@ -133,7 +134,7 @@ header_place f h room =
 
 -- A clause that is refused for a literal is at the index of the first bad one, any other at place 0.
 abbrev PlacedBy : List ℤ → def.Written → Type 0
-PlacedBy so d = let r = written_of d in place_in r ≡ cond (eqb (number_in r) (number_of Reason.literal_not_writable)) (run is_literal so) 0
+PlacedBy so d = let r = written_of d in place_in r ≡ cond (eqb (number_in r) (number_of Reason.LiteralNotWritable)) (run is_literal so) 0
 
 line_place : (f : Format) (extra : ℕ) (so : List ℤ) (room : ℕ) → PlacedBy so (def.write_line f extra so room)
 unfolding def.write_line

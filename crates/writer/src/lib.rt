@@ -5,7 +5,7 @@
 
 ghost use Rattle.std.specs.Prelude.{◌≡◌, ◌+◌, ◌≤◌, eqb, length, ◌&&◌, if◌then◌else◌};
 ghost use Rattle.dimacs.specs.Clauses.{has_hard};
-ghost use Rattle.dimacs.specs.Names.{call_numbered};
+ghost use Rattle.dimacs.specs.Names.{call_refusal};
 ghost use Rattle.dimacs.specs.Writing.{items, lead, third_digits, header_line, clause_line, write_header, write_line, write_clause, write_hard_clause};
 ghost use Rattle.dimacs.specs.declared.Format.{Format};
 ghost use Rattle.decimals.specs.Pieces.{PutAt, if_room};
@@ -13,10 +13,7 @@ ghost use Rattle.measures.specs.Lines.{header_start};
 ghost use Rattle.writer.specs.Answers.{Writes};
 
 use decimals::{put_digits, put_digits_after, put_literal};
-use dimacs::{
-    CEILING, FORMAT_OR_MODE_UNKNOWN, Format, HARD, Header, LITERAL_NOT_WRITABLE, OUTPUT_TOO_SHORT,
-    Refusal, VARIABLE_COUNT_TOO_BIG, WEIGHT_ZERO, has_hard, has_header, has_third, refuse_call,
-};
+use dimacs::{CEILING, Format, HARD, Header, Reason, Refusal, refuse_call};
 use measures::{around_length, header_length, left_after, writable};
 
 // Literals, each with the space after it.
@@ -93,13 +90,13 @@ fn put_clause(out: &mut [u8], format: Format, extra: u64, lits: &[i32]) -> usize
 }
 
 // Nothing is written where a test fails, for a reason that no text is at fault for.
-fn refuse_unless(holds: bool, number: u8, index: usize) -> Result<(), Refusal>
-    ensures { result ≡ (if holds then Ok tt else Err (call_numbered number index)) }
+fn refuse_unless(holds: bool, reason: Reason, index: usize) -> Result<(), Refusal>
+    ensures { result ≡ (if holds then Ok tt else Err (call_refusal reason index)) }
 {
     if holds {
         return Ok(());
     }
-    Err(refuse_call(number, index))
+    Err(refuse_call(reason, index))
 }
 
 // The line of a clause, hard if the format has hard clauses and `extra` says so.
@@ -107,9 +104,13 @@ fn write_line(format: Format, extra: u64, lits: &[i32], out: &mut [u8]) -> Resul
     ensures { Writes (write_line format extra lits.now (length out.old)) out.old out.new result }
 {
     let good = writable(lits);
-    refuse_unless(lits.len() <= good, LITERAL_NOT_WRITABLE, good)?;
+    refuse_unless(lits.len() <= good, Reason::LiteralNotWritable, good)?;
     let room = left_after(out.len(), lits);
-    refuse_unless(around_length(format, extra) <= room, OUTPUT_TOO_SHORT, 0)?;
+    refuse_unless(
+        around_length(format, extra) <= room,
+        Reason::OutputTooShort,
+        0,
+    )?;
     Ok(put_clause(out, format, extra, lits))
 }
 
@@ -117,7 +118,7 @@ fn write_line(format: Format, extra: u64, lits: &[i32], out: &mut [u8]) -> Resul
 fn lacks_weight(format: Format, extra: u64) -> bool
     ensures { result ≡ has_hard format && eqb extra 0 }
 {
-    has_hard(format) && extra == 0
+    format.has_hard() && extra == 0
 }
 
 // The line of a clause: its weight or group if the format has one, the literals, the 0 and the line end. In the 2022 form it is soft, and its weight is not 0.
@@ -129,7 +130,7 @@ pub fn write_clause(
 ) -> Result<usize, Refusal>
     ensures { Writes (write_clause format extra lits.now (length out.old)) out.old out.new result }
 {
-    refuse_unless(!lacks_weight(format, extra), WEIGHT_ZERO, 0)?;
+    refuse_unless(!lacks_weight(format, extra), Reason::WeightZero, 0)?;
     write_line(format, extra, lits, out)
 }
 
@@ -137,7 +138,7 @@ pub fn write_clause(
 pub fn write_hard_clause(format: Format, lits: &[i32], out: &mut [u8]) -> Result<usize, Refusal>
     ensures { Writes (write_hard_clause format lits.now (length out.old)) out.old out.new result }
 {
-    refuse_unless(has_hard(format), FORMAT_OR_MODE_UNKNOWN, 0)?;
+    refuse_unless(format.has_hard(), Reason::FormatOrModeUnknown, 0)?;
     write_line(format, HARD, lits, out)
 }
 
@@ -158,7 +159,7 @@ fn put_start(out: &mut [u8], format: Format) -> usize
 fn put_third(out: &mut [u8], at: usize, format: Format, third: u64) -> usize
     ensures { PutAt at (if_room at (third_digits format third) out.old) out.old out.new result }
 {
-    if has_third(format) {
+    if format.has_third() {
         return put_digits_after(out, at, b' ', third);
     }
     at
@@ -180,15 +181,15 @@ fn put_header(out: &mut [u8], format: Format, header: Header) -> usize
 pub fn write_header(format: Format, header: Header, out: &mut [u8]) -> Result<usize, Refusal>
     ensures { Writes (write_header format header (length out.old)) out.old out.new result }
 {
-    refuse_unless(has_header(format), FORMAT_OR_MODE_UNKNOWN, 0)?;
+    refuse_unless(format.has_header(), Reason::FormatOrModeUnknown, 0)?;
     refuse_unless(
         header.variables <= CEILING as u64,
-        VARIABLE_COUNT_TOO_BIG,
+        Reason::VariableCountTooBig,
         0,
     )?;
     refuse_unless(
         header_length(format, header) <= out.len(),
-        OUTPUT_TOO_SHORT,
+        Reason::OutputTooShort,
         0,
     )?;
     Ok(put_header(out, format, header))
