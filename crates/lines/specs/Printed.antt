@@ -1,5 +1,5 @@
 -- The lines that several programs print.
-use Rattle.std.specs.Prelude.{ℕ, cond, List, [], ◌++◌, eqb, ℤ}
+use Rattle.std.specs.Prelude.{ℕ, cond, List, [], ◌++◌, eqb, ℤ, Result, Ok, Err}
 use Rattle.dimacs.specs.Bytes.{bytes}
 use Rattle.dimacs.specs.Names.{hard}
 use Rattle.dimacs.specs.Writing.{digits, third_digits}
@@ -7,7 +7,6 @@ use Rattle.dimacs.specs.declared.Format.{Format}
 use Rattle.dimacs.specs.declared.Format.TheVariants.{Plain, Weighted, Grouped, Weighted2022}
 use Rattle.dimacs.specs.declared.Header.{Header}
 use Rattle.dimacs.specs.declared.Opening.{Opening}
-use Rattle.dimacs.specs.declared.Opening.TheVariants.{NoHeader, Refused}
 use Rattle.dimacs.specs.declared.Opening.TheVariants as opening
 use Rattle.dimacs.specs.declared.Refusal.{Refusal}
 use Rattle.pages.specs.Printed.{printed_number, printed_literals}
@@ -49,10 +48,10 @@ abbrev pub printed_refusal : Refusal → ℕ → Words → List ℕ
 printed_refusal r k w = printed_placed_refusal r w.place.now ++ printed_label w.count.now k ++ printed_spot r w
 
 -- How a text opens; the words are those of a refusal, whose k is 0.
-abbrev pub printed_opening : Opening → Format → Words → List ℕ
-printed_opening (opening.Header h _) f w = printed_header f h
-printed_opening (NoHeader _) f w = bytes "header none"
-printed_opening (Refused r) f w = printed_refusal r 0 w
+abbrev pub printed_opening : Result Opening Refusal → Format → Words → List ℕ
+printed_opening (Ok (opening.Header h _)) f w = printed_header f h
+printed_opening (Ok (opening.NoHeader _)) f w = bytes "header none"
+printed_opening (Err r) f w = printed_refusal r 0 w
 
 -- The number of a case.
 abbrev pub printed_case : ℕ → List ℕ

@@ -6,7 +6,7 @@ ghost use Rattle.dimacs.specs.Writing.{third_digits};
 ghost use Rattle.pages.specs.Pages.{Laid};
 ghost use Rattle.lines.specs.Printed.{printed_label, printed_header, printed_weight, printed_lead, printed_clause, printed_refusal, printed_placed_refusal, printed_spot, printed_opening, printed_case, printed_line};
 
-use dimacs::{Format, HARD, Header, Opening, Refusal, has_third};
+use dimacs::{Format, HARD, Header, Opening, Refusal};
 pub use pages::{Page, first};
 
 // What a caller puts before the place of a refusal, its k, its line and its column.
@@ -40,7 +40,7 @@ fn labelled(page: &mut Page, label: &[u8], n: u64)
 fn third(page: &mut Page, format: Format, n: u64)
     ensures { Laid (third_digits format n) page.old page.new }
 {
-    if has_third(format) {
+    if format.has_third() {
         page.number(n);
     }
 }
@@ -110,13 +110,18 @@ pub fn refused_words(page: &mut Page, r: Refusal, count: usize, words: &Words)
 }
 
 // How a text opens; the words are for a refusal.
-pub fn opening_words(page: &mut Page, opening: Opening, format: Format, words: &Words)
+pub fn opening_words(
+    page: &mut Page,
+    opening: Result<Opening, Refusal>,
+    format: Format,
+    words: &Words,
+)
     ensures { Laid (printed_opening opening format words.now) page.old page.new }
 {
     match opening {
-        Opening::Header(header, _) => header_words(page, header, format),
-        Opening::NoHeader(_) => page.word(b"header none"),
-        Opening::Refused(refusal) => refused_words(page, refusal, 0, words),
+        Ok(Opening::Header(header, _)) => header_words(page, header, format),
+        Ok(Opening::NoHeader(_)) => page.word(b"header none"),
+        Err(refusal) => refused_words(page, refusal, 0, words),
     }
 }
 

@@ -1,11 +1,13 @@
 -- Pieces laid into a page one after the other. Assumes nothing.
 use Prim.Native.Nat.{ℕ, zero, suc, ◌+◌, ◌-◌, ◌≤◌, ◌<◌}
-use mathlib.Core.List.{List, [], ◌∷◌, ◌++◌, append_assoc, append-nil, flat_map}
-use mathlib.Core.Path.{◌≡◌, refl, ap, sym, ◌∙◌}
+use mathlib.Core.List.{List, [], ◌∷◌, ◌++◌}
+use Rattle.std.specs.List.{flat_map}
+use mathlib.Core.Path.{◌≡◌, ap, sym, ◌∙◌}
 use native.Mathlib.Numerals.{add-one}
 use native.Mathlib.Omega.{arith}
 use lib.ListN.{length, get_or, take, length-take}
-use lib.Seq.{take-suc, take_all, take-nil, take_at, sets-eq, length-take-le}
+use lib.Seq.{take-suc, take-nil, take_at, sets-eq, length-take-le}
+use Rattle.std.proofs.lemmas.List.{flat_map_more}
 use Rattle.decimals.specs.Pieces.{PutAt, if_room}
 use Rattle.decimals.proofs.Pieces.{one_piece, put_nothing, put_then, put_keeps_length, puts_whole}
 use Rattle.pages.specs.Pages.{Lays, Laid}
@@ -59,49 +61,11 @@ laid_stands {piece} {old} h =
     let all : length old - 0 ≡ length old = omega arith in
     put_stands (rw all at h.puts) (omega (arith, length-take (length old) piece))
 
--- Pieces of the elements of a list.
-module _ {A : Type 0} (f : A → List ℕ) where
-  flat_append : (a b : List A) → flat_map f (a ++ b) ≡ flat_map f a ++ flat_map f b
-  unfolding flat_map
-  flat_append [] b = refl
-  flat_append (x ∷ a) b = ap (λ r. f x ++ r) (flat_append a b) ∙ sym (append_assoc (f x) (flat_map f a) (flat_map f b))
-
-  flat_one : (x : A) → flat_map f (x ∷ []) ≡ f x
-  unfolding flat_map
-  flat_one x = append-nil (f x)
-
-  flat_next : (l : List A) (i : ℕ) (d : A) → i < length l → flat_map f (take (i + 1) l) ≡ flat_map f (take i l) ++ f (get_or l i d)
-  flat_next l i d h =
-      let x = get_or l i d in
-      rw (add-one, take-suc l i d h) (flat_append (take i l) (x ∷ []) ∙ ap (λ r. flat_map f (take i l) ++ r) (flat_one x))
-
-  flat_none : flat_map f [] ≡ []
-  unfolding flat_map
-  flat_none = refl
-
--- A list of bytes is its bytes.
-pub flat_bytes : (w : List ℕ) → flat_map (λ b. b ∷ []) w ≡ w
-unfolding flat_map
-flat_bytes [] = refl
-flat_bytes (b ∷ w) = ap (λ r. b ∷ r) (flat_bytes w)
-
 -- One piece laid, and then another.
 pub laid_then : {p q : List ℕ} {old mid new : Page} → Laid p old mid → Laid q mid new → Laid (p ++ q) old new
 laid_then h k = record { same_page = k.same_page ∙ h.same_page; lays = lay_then h.lays k.lays }
 
-pub laid_nothing : (page : Page) → Laid [] page page
-laid_nothing page = record { same_page = refl; lays = lay_nothing page.at page.bytes.now }
-
--- The first elements of a list are laid, each as its piece.
-pub record LaidSome {A : Type 0} (f : A → List ℕ) (l : List A) (old page : Page) (i : ℕ) : Type 0 where
-  pub laid : Laid (flat_map f (take i l)) old page
-
-pub some_none : {A : Type 0} (f : A → List ℕ) (l : List A) (old : Page) → LaidSome f l old old 0
-some_none f l old = record { laid = rw (flat_none f) (laid_nothing old) }
-
-module _ {A : Type 0} {f : A → List ℕ} {l : List A} {old page : Page} {i : ℕ} (h : LaidSome f l old page i) where
-  pub some_more : {new : Page} (d : A) → i < length l → Laid (f (get_or l i d)) page new → LaidSome f l old new (i + 1)
-  some_more d k n = record { laid = rw (flat_next f l i d k) (laid_then h.laid n) }
-
-  pub some_all : length l ≤ i → Laid (flat_map f l) old page
-  some_all k = rw (take_all i l k) at h.laid
+-- The pieces of so many elements of a list, and then that of the next.
+pub laid_next : {A : Type 0} (f : A → List ℕ) (l : List A) {i : ℕ} (d : A) {old mid new : Page} → i < length l →
+    Laid (flat_map f (take i l)) old mid → Laid (f (get_or l i d)) mid new → Laid (flat_map f (take (i + 1) l)) old new
+laid_next f l {i} d h a b = rw (add-one, take-suc l i d h, ← flat_map_more f [] (take i l) (get_or l i d)) (laid_then a b)

@@ -1,7 +1,6 @@
 -- Numbers, literals and words as the programs print them.
-use Rattle.std.specs.Prelude.{ℕ, ◌+◌, ◌-◌, ◌/◌, ◌%◌, cond, ltb, ℤ}
+use Rattle.std.specs.Prelude.{ℕ, ◌+◌, ◌-◌, ◌/◌, ◌%◌, cond, ltb, ℤ, List, [], ◌∷◌, ◌++◌, flat_map}
 use Prim.Native.Char.{code}
-use mathlib.Core.List.{List, [], ◌∷◌, ◌++◌, flat_map}
 use Rattle.dimacs.specs.Bytes.{bytes}
 use Rattle.dimacs.specs.Writing.{digits, signed_digits}
 

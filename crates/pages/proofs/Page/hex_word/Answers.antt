@@ -1,9 +1,7 @@
 -- `pages::Page::hex_word` meets its contract: each turn lays the next byte in hex. Assumes nothing.
-use Rattle.pages.proofs.Pages.{some_none, some_more}
+use Rattle.pages.specs.Printed.{printed_hex}
+use Rattle.pages.proofs.Pages.{laid_next}
 use Rattle.pages.proofs.Page.hex_word.Goals as goal
 
-pub loop-b-init : goal.loop-b-init
-loop-b-init c = some_none _ _ _
-
 pub loop-b-preserved : goal.loop-b-preserved
-loop-b-preserved c = some_more c.loop-b.invariant 0 c.loop-b-test.true c.hex.ensures
+loop-b-preserved c = laid_next printed_hex c.args.w.now 0 c.loop-b-test.true c.loop-b.invariant c.hex.ensures

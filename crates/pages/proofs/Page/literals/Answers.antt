@@ -5,13 +5,11 @@ use lib.IntN.{pos}
 use lib.ListN.{get_or}
 use mir.Syntax.{w32}
 use mir.Val.{to_z, of_z}
-use Rattle.pages.proofs.Pages.{some_none, some_more}
+use Rattle.pages.specs.Printed.{printed_literal}
+use Rattle.pages.proofs.Pages.{laid_next}
 use Rattle.pages.proofs.Page.literals.Goals as goal
-
-pub loop-v-init : goal.loop-v-init
-loop-v-init c = some_none _ _ _
 
 pub loop-v-preserved : goal.loop-v-preserved
 loop-v-preserved c = let x = get_or c.args.lits.now c.loop-v.v-index (pos 0) in
     let z : to_z w32 (of_z w32 x) ≡ x = search rules in
-    some_more c.loop-v.invariant (pos 0) c.loop-v-test.true (rw z at c.literal.ensures)
+    laid_next printed_literal c.args.lits.now (pos 0) c.loop-v-test.true c.loop-v.invariant (rw z at c.literal.ensures)
