@@ -8,6 +8,8 @@ use borrow.Author.Tests.{eq-eqb, ne_eqb}
 use lib.ListN.{length, take}
 use lib.Seq.{length-take-le}
 use lib.IntN.{ℤ}
+use Rattle.std.specs.Prelude.{Option, Some, Result, Ok, Err}
+use Rattle.std.specs.Result.{MatchResult, IsOkAnd}
 use Rattle.dimacs.specs.Loop.{Step, again, answer}
 use Rattle.dimacs.specs.Bytes.{bytes}
 use Rattle.dimacs.specs.Names.{ceiling}
@@ -27,20 +29,33 @@ use Rattle.dimacs.proofs.Rows.{Grown, row_grows}
 use Rattle.dimacs.proofs.Buffer.{kept_unchanged, kept_in_place}
 use Rattle.log_line.specs.Answers.{log_of, log_leaves}
 use Rattle.rows.specs.Answers.{ByCount}
-use Rattle.log_line.specs.Lines.{log_state_of, log_line_of, line_leaves, ReadsLine}
-use Rattle.log_line.specs.declared.Log.{Log}
+use Rattle.rows.specs.declared.Stopped.{Stopped}
+use Rattle.log_line.specs.Lines.{Line, leads, log_state_of, log_line_of, line_leaves, ReadsLine}
 use Rattle.log_line.specs.declared.Reading.{Reading}
-use Rattle.log_line.specs.declared.Line.{Line}
-use Rattle.log_line.specs.declared.Line.TheVariants.{Again, Answer}
+use Rattle.log_line.specs.declared.Accepted.{Accepted}
 use Rattle.log_line.proofs.Rows.{line_read_leaves}
+use Rattle.sat_solver_log.specs.Answers.{line_leads}
 use Rattle.sat_solver_log.specs.Starts.{value_start, solution_start}
+use Rattle.sat_solver_log.specs.declared.Line as own
+use Rattle.sat_solver_log.specs.declared.Line.TheVariants.{Again, End}
+
+-- A line that leads to the next, and one that may be the log's end.
+pub leads_again : (a : Result Reading Stopped) (r : Result own.Line Stopped) → MatchResult a (λ x. IsOkAnd r (λ y. y ≡ Again x)) (λ e. r ≡ Err e) → line_leads r ≡ leads a
+leads_again (Ok x) (Ok y) h = rw h refl
+leads_again (Ok x) (Err e) h = absurd h
+leads_again (Err e) r h = rw h refl
+
+pub leads_end : (a : Result Accepted Stopped) (r : Result own.Line Stopped) → MatchResult a (λ x. IsOkAnd r (λ y. y ≡ End x)) (λ e. r ≡ Err e) → line_leads r ≡ answer a
+leads_end (Ok x) (Ok y) h = rw h refl
+leads_end (Ok x) (Err e) h = absurd h
+leads_end (Err e) r h = rw h refl
 
 -- Only value lines add literals.
 module _ (s : List ℕ) where
   solution_is_leaves : (v : Verdict) (w : List ℕ) (at : ℕ) (l : def.Log) (t : Step def.Log def.LogAnswer) → line_leaves t ≡ l.so
       → line_leaves (def.solution_is s v w at l t) ≡ l.so
   solution_is_leaves v w at l t h =
-      chosen (λ d. line_leaves d ≡ l.so) (unmoved at (fixed s w at)) (λ _. h) (λ _. line_read_leaves s (fixed s w at) v l.assignment l.so)
+      chosen (λ d. line_leaves d ≡ l.so) (unmoved at (fixed s w at)) (λ _. h) (λ _. line_read_leaves s (fixed s w at) (Some v) l.assignment l.so)
 
   solution_line_leaves : (at : ℕ) (l : def.Log) → line_leaves (def.solution_line s at l) ≡ l.so
   unfolding def.solution_line
@@ -50,7 +65,7 @@ module _ (s : List ℕ) where
       (solution_is_leaves _ _ at l _
       refl))
 
-  log_end_leaves : (at : ℕ) (verdict : Verdict) (so : List ℤ) (a : Assignment) → log_leaves (def.log_end s at verdict so a) ≡ so
+  log_end_leaves : (at : ℕ) (verdict : Option Verdict) (so : List ℤ) (a : Assignment) → log_leaves (def.log_end s at verdict so a) ≡ so
   log_end_leaves at verdict so Unbegun = refl
   log_end_leaves at verdict so Begun = refl
   log_end_leaves at verdict so Closed = refl
@@ -97,7 +112,7 @@ module _ (rule : Ends) (s : List ℕ) (rigor : Rigor) (x : Reading) (old : List 
     unfolding def.log_line
     comment_line_is h = rw (sym c-is, ne_eqb c x.place h)
 
-    pub comment_line : (c ≡ x.place → ⊥) → ReadsLine (line_at read rigor old x) old old (Again (record { place = c; verdict = x.verdict; assignment = x.assignment; count = x.count }))
+    pub comment_line : (c ≡ x.place → ⊥) → ReadsLine (line_at read rigor old x) old old (again (record { place = c; verdict = x.verdict; assignment = x.assignment; count = x.count }))
     comment_line h = line_adds_none fits (comment_line_is h) refl (rw many)
 
     module _ (c-no : c ≡ x.place) (v : ℕ) (v-is : v ≡ value_start s x.assignment x.place) where
@@ -139,9 +154,9 @@ module _ (rule : Ends) (s : List ℕ) (rigor : Rigor) (x : Reading) (old : List 
           unfolding def.log_line
           last_line_is t = rw (sym c-is, eq-eqb c x.place c-no, no_values, no_solution, end_lined rule s x.place, t)
 
-          pub last_line : at_end s x.place ≡ true → {a : Log}
-              → ByCount x.count (λ so. log_of (def.log_end read x.place x.verdict so x.assignment)) a → ReadsLine (line_at read rigor old x) old old (Answer a)
-          last_line t is = line_adds_none fits (last_line_is t) (log_end_leaves read x.place x.verdict (take x.count old) x.assignment) (ap Answer (is (take x.count old) many))
+          pub last_line : at_end s x.place ≡ true → {a : Result Accepted Stopped}
+              → ByCount x.count (λ so. log_of (def.log_end read x.place x.verdict so x.assignment)) a → ReadsLine (line_at read rigor old x) old old (answer a)
+          last_line t is = line_adds_none fits (last_line_is t) (log_end_leaves read x.place x.verdict (take x.count old) x.assignment) (ap answer (is (take x.count old) many))
 
           other_line_is : at_end s x.place ≡ false → line_at read rigor old x ≡ def.other_line read rigor (log_state_of x (take x.count old))
           unfolding def.log_line

@@ -1,5 +1,5 @@
 -- Where a value line or a solution line starts, if it may come.
-use Rattle.std.specs.Prelude.{ℕ, cond, List}
+use Rattle.std.specs.Prelude.{ℕ, cond, List, Option}
 use Rattle.dimacs.specs.Bytes.{bytes}
 use Rattle.dimacs.specs.Tokens.{fixed}
 use Rattle.dimacs.specs.Logs as def
@@ -11,5 +11,5 @@ abbrev pub value_start : List ℕ → Assignment → ℕ → ℕ
 value_start s a at = cond (def.is_closed a) at (fixed s (bytes "v ") at)
 
 -- Past `s ` if no solution line came, else the place itself.
-abbrev pub solution_start : List ℕ → Verdict → ℕ → ℕ
+abbrev pub solution_start : List ℕ → Option Verdict → ℕ → ℕ
 solution_start s verdict at = cond (def.is_said verdict) at (fixed s (bytes "s ") at)
