@@ -1,2 +1,3 @@
 -- What opening a text answers.
+pub mod Counts
 pub mod Headed

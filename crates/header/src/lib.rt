@@ -2,21 +2,20 @@
 #![tactic(auto)]
 
 ghost use Rattle.std.specs.Prelude.{◌≡◌, ◌≤◌};
-ghost use Rattle.dimacs.specs.Names.{numbered, ceiling};
+ghost use Rattle.dimacs.specs.Names.{ceiling};
 ghost use Rattle.dimacs.specs.Lined.{lined};
 ghost use Rattle.dimacs.specs.Tokens.{word};
-ghost use Rattle.dimacs.specs.declared.Opening.{Opening};
-ghost use Rattle.dimacs.specs.Header.{format_word, header_of, header_end, third_there, third_count, clause_count, variable_count, after_p, opening_of, unlimited, specified, group_limit, limits_of};
+ghost use Rattle.dimacs.specs.Header.{format_word, variable_count, after_p, opening_of, unlimited, specified, group_limit, limits_of};
+ghost use Rattle.header.specs.Counts.{count_at, third_at};
 ghost use Rattle.header.specs.Headed.{headed_in};
 
 use dimacs::{
-    CEILING, CLAUSE_COUNT_EXPECTED, CLAUSE_COUNT_TOO_BIG, EndOfLine, Ends, FORMAT_WORD_EXPECTED,
-    Format, Header, LARGEST, LINE_END_EXPECTED, Limits, Mode, Opening, Rigor, THIRD_COUNT_EXPECTED,
-    THIRD_COUNT_TOO_BIG, Uint, VARIABLE_COUNT_EXPECTED, VARIABLE_COUNT_TOO_BIG, has_header,
-    has_third, refuse,
+    CEILING, Ends, Format, Header, LARGEST, Limits, Mode, Opening, Reason, Refusal, Rigor, Uint,
+    refuse,
 };
 
 // Past the format's word.
+#[tactic(auto, using(dimacs::proofs::Words::no_word))]
 fn format_word(text: &[u8], at: usize, format: Format) -> usize
     ensures { result ≡ word text.now (format_word format) at }
 {
@@ -28,103 +27,101 @@ fn format_word(text: &[u8], at: usize, format: Format) -> usize
     }
 }
 
-fn refused(text: &[u8], ends: Ends, number: u8, place: usize) -> Opening
-    ensures { result ≡ Opening.Refused (numbered (lined ends text.now) number place) }
-{
-    Opening::Refused(refuse(text, ends, number, place))
-}
-
-fn header_end(
+// A count up to a limit, and the place past it; or a refusal, for one reason where none stands and for another where it is too big.
+#[tactic(auto, using(dimacs::proofs::LinedTokens::uint_lined))]
+fn count(
     text: &[u8],
     ends: Ends,
     at: usize,
-    variables: u64,
-    clauses: u64,
-    third: u64,
-) -> Opening
-    ensures { result ≡ header_end (lined ends text.now) (header_of variables clauses third) at }
+    limit: u64,
+    missing: Reason,
+    too_big: Reason,
+) -> Result<(u64, usize), Refusal>
+    ensures { result ≡ count_at (lined ends text.now) limit missing too_big at }
 {
+    match numeral::uint(text, at, limit) {
+        Uint::Missing => Err(refuse(text, ends, missing, at)),
+        Uint::TooBig => Err(refuse(text, ends, too_big, at)),
+        Uint::Value(n, next) => Ok((n, next)),
+    }
+}
+
+// The third count and the place past it, or 0 where the format has none.
+fn third_count(text: &[u8], ends: Ends, at: usize, format: Format) -> Result<(u64, usize), Refusal>
+    ensures { result ≡ third_at (lined ends text.now) format at }
+{
+    if format.has_third() {
+        return count(
+            text,
+            ends,
+            at,
+            LARGEST,
+            Reason::ThirdCountExpected,
+            Reason::ThirdCountTooBig,
+        );
+    }
+    Ok((0, at))
+}
+
+// The counts after the format's word, and what closes their line.
+fn counts(text: &[u8], ends: Ends, at: usize, format: Format) -> Result<Opening, Refusal>
+    ensures { result ≡ variable_count (lined ends text.now) format at }
+{
+    let (variables, at) = count(
+        text,
+        ends,
+        at,
+        u64::from(CEILING),
+        Reason::VariableCountExpected,
+        Reason::VariableCountTooBig,
+    )?;
+    let (clauses, at) = count(
+        text,
+        ends,
+        at,
+        LARGEST,
+        Reason::ClauseCountExpected,
+        Reason::ClauseCountTooBig,
+    )?;
+    let (third, at) = third_count(text, ends, at, format)?;
     match token::interactive_end_of_line(text, ends, at) {
-        EndOfLine::Missing => refused(text, ends, LINE_END_EXPECTED, at),
-        EndOfLine::Past(next) => Opening::Header(
+        None => Err(refuse(text, ends, Reason::LineEndExpected, at)),
+        Some(next) => Ok(Opening::Header(
             Header {
                 variables,
                 clauses,
                 third,
             },
             next,
-        ),
+        )),
     }
 }
 
-fn third_there(text: &[u8], ends: Ends, at: usize, variables: u64, clauses: u64) -> Opening
-    ensures { result ≡ third_there (lined ends text.now) variables clauses at }
-{
-    match numeral::uint(text, at, LARGEST) {
-        Uint::Missing => refused(text, ends, THIRD_COUNT_EXPECTED, at),
-        Uint::TooBig => refused(text, ends, THIRD_COUNT_TOO_BIG, at),
-        Uint::Value(third, next) => header_end(text, ends, next, variables, clauses, third),
-    }
-}
-
-fn third_count(
-    text: &[u8],
-    ends: Ends,
-    at: usize,
-    format: Format,
-    variables: u64,
-    clauses: u64,
-) -> Opening
-    ensures { result ≡ third_count (lined ends text.now) format variables clauses at }
-{
-    if has_third(format) {
-        return third_there(text, ends, at, variables, clauses);
-    }
-    header_end(text, ends, at, variables, clauses, 0)
-}
-
-fn clause_count(text: &[u8], ends: Ends, at: usize, format: Format, variables: u64) -> Opening
-    ensures { result ≡ clause_count (lined ends text.now) format variables at }
-{
-    match numeral::uint(text, at, LARGEST) {
-        Uint::Missing => refused(text, ends, CLAUSE_COUNT_EXPECTED, at),
-        Uint::TooBig => refused(text, ends, CLAUSE_COUNT_TOO_BIG, at),
-        Uint::Value(clauses, next) => third_count(text, ends, next, format, variables, clauses),
-    }
-}
-
-fn var_count(text: &[u8], ends: Ends, at: usize, format: Format) -> Opening
-    ensures { result ≡ variable_count (lined ends text.now) format at }
-{
-    match numeral::uint(text, at, CEILING as u64) {
-        Uint::Missing => refused(text, ends, VARIABLE_COUNT_EXPECTED, at),
-        Uint::TooBig => refused(text, ends, VARIABLE_COUNT_TOO_BIG, at),
-        Uint::Value(variables, next) => clause_count(text, ends, next, format, variables),
-    }
-}
-
-fn after_p(text: &[u8], ends: Ends, at: usize, format: Format) -> Opening
+// What follows the word `p`: the format's word, and the counts.
+#[tactic(auto, using(dimacs::proofs::LinedTokens::format_word_lined), unfolding(dimacs::specs::Header::after_p))]
+fn after_p(text: &[u8], ends: Ends, at: usize, format: Format) -> Result<Opening, Refusal>
     ensures { result ≡ after_p (lined ends text.now) format at }
 {
     let past = format_word(text, at, format);
     if past == at {
-        return refused(text, ends, FORMAT_WORD_EXPECTED, at);
+        return Err(refuse(text, ends, Reason::FormatWordExpected, at));
     }
-    var_count(text, ends, past, format)
+    counts(text, ends, past, format)
 }
 
 // How a text opens in a format.
-fn opening_of(text: &[u8], ends: Ends, format: Format) -> Opening
+#[tactic(auto, using(dimacs::proofs::LinedTokens::blanks_lined, dimacs::proofs::LinedTokens::p_lined), unfolding(dimacs::specs::Header::opening_of))]
+fn opening_of(text: &[u8], ends: Ends, format: Format) -> Result<Opening, Refusal>
     ensures { result ≡ opening_of (lined ends text.now) format }
 {
     let at = token::comments_and_newlines(text, ends, token::skip_whitespace(text, 0));
-    if has_header(format) {
+    if format.has_header() {
         let past = token::word(text, at, b"p");
         if past != at {
             return after_p(text, ends, past, format);
         }
     }
-    Opening::NoHeader(at)
+    Ok(Opening::NoHeader(at))
 }
 
 // The limits where no count applies.
@@ -138,29 +135,22 @@ pub fn no_limits() -> Limits
     }
 }
 
-fn literal_limit(variables: u64) -> u32
-    requires { variables ≤ ceiling }
-    ensures { result ≡ specified variables ceiling }
+// A count of a header, or another number where the count is 0, which is unspecified.
+fn specified(count: u64, otherwise: u64) -> u64
+    ensures { result ≡ specified count otherwise }
 {
-    if variables == 0 {
-        return CEILING;
+    if count == 0 {
+        return otherwise;
     }
-    variables as u32
+    count
 }
 
 fn group_limit(format: Format, third: u64) -> u64
     ensures { result ≡ group_limit format third }
 {
     match format {
-        Format::Plain => LARGEST,
-        Format::Weighted => LARGEST,
-        Format::Grouped => {
-            if third == 0 {
-                return LARGEST;
-            }
-            third
-        }
-        Format::Weighted2022 => LARGEST,
+        Format::Grouped => specified(third, LARGEST),
+        _ => LARGEST,
     }
 }
 
@@ -171,7 +161,7 @@ fn limits_of(format: Format, rigor: Rigor, header: Header) -> Limits
     match rigor {
         Rigor::Lenient => no_limits(),
         Rigor::Strict => Limits {
-            literals: literal_limit(header.variables),
+            literals: specified(header.variables, u64::from(CEILING)) as u32,
             groups: group_limit(format, header.third),
             clauses: header.clauses,
         },
@@ -179,31 +169,22 @@ fn limits_of(format: Format, rigor: Rigor, header: Header) -> Limits
 }
 
 // How a text opens, and the limits of its clauses.
-#[derive(Clone, Copy)]
+#[derive(Clone, Copy, Debug, PartialEq, Eq)]
 pub struct Headed {
-    pub opening: Opening,
+    pub opening: Result<Opening, Refusal>,
     pub limits: Limits,
 }
 
 // How a text opens in a format, and the limits of its clauses in a mode.
+#[tactic(auto, unfolding(crate::specs::Headed::headed_in))]
 pub fn parse_header(text: &[u8], format: Format, mode: Mode) -> Headed
     ensures { result ≡ headed_in format mode text.now }
 {
-    let rigor = mode.rigor;
-    let ends = mode.ends;
-    let opening = opening_of(text, ends, format);
-    match opening {
-        Opening::Header(header, _) => Headed {
-            opening,
-            limits: limits_of(format, rigor, header),
-        },
-        Opening::NoHeader(_) => Headed {
-            opening,
-            limits: no_limits(),
-        },
-        Opening::Refused(_) => Headed {
-            opening,
-            limits: no_limits(),
-        },
-    }
+    let opening = opening_of(text, mode.ends, format);
+    let limits = match opening {
+        Ok(Opening::Header(header, _)) => limits_of(format, mode.rigor, header),
+        Ok(Opening::NoHeader(_)) => no_limits(),
+        Err(_) => no_limits(),
+    };
+    Headed { opening, limits }
 }

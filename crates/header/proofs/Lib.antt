@@ -1,0 +1,2 @@
+-- How the counts of a header follow one another.
+pub mod OneByOne
