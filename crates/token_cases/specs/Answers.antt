@@ -1,12 +1,10 @@
 -- What is printed of a case: what each token function says of a place of a text.
-use Rattle.std.specs.Prelude.{ℕ, ◌%◌, Bool, cond, List, [], ◌∷◌, ◌++◌}
+use Rattle.std.specs.Prelude.{ℕ, ◌%◌, Bool, cond, List, [], ◌∷◌, ◌++◌, Option, None, Some}
 use Rattle.dimacs.specs.Bytes.{bytes}
 use Rattle.dimacs.specs.Lined.{lined}
 use Rattle.dimacs.specs.Tokens as token
 use Rattle.dimacs.specs.Writing.{digits}
-use Rattle.dimacs.specs.declared.EndOfLine.{EndOfLine}
 use Rattle.dimacs.specs.declared.Ends.{Ends}
-use Rattle.dimacs.specs.declared.EndOfLine.TheVariants as end
 use Rattle.dimacs.specs.declared.Int.{Int}
 use Rattle.dimacs.specs.declared.Int.TheVariants as int
 use Rattle.dimacs.specs.declared.Uint.{Uint}
@@ -22,9 +20,9 @@ abbrev pub printed_past : ℕ → List ℕ
 printed_past next = bytes "@" ++ digits next
 
 -- A line end: the place past it.
-abbrev pub printed_end_of_line : EndOfLine → List ℕ
-printed_end_of_line end.Missing = bytes " -"
-printed_end_of_line (end.Past next) = printed_number next
+abbrev pub printed_end_of_line : Option ℕ → List ℕ
+printed_end_of_line None = bytes " -"
+printed_end_of_line (Some next) = printed_number next
 
 -- An unsigned number and the place past it.
 abbrev pub printed_uint : Uint → List ℕ

@@ -6,13 +6,12 @@
 // that cannot be read is `unreadable`; nothing follows them.
 #![tactic(auto)]
 
-ghost use Rattle.std.specs.Prelude.{◌≡◌, ◌≤◌};
-ghost use Rattle.pages.specs.Pages.{Lays};
-ghost use Rattle.pages.specs.Printed.{printed_number};
-ghost use Rattle.token_cases.specs.Answers.{bit, printed_past, printed_end_of_line, printed_uint, printed_int, test_answers, end_answers, line_answers, word_answers, number_answers, token_line};
+ghost use Rattle.pages.specs.Pages.{Laid};
+ghost use Rattle.token_cases.specs.Answers.{printed_past, printed_end_of_line, printed_uint, printed_int, test_answers, end_answers, line_answers, word_answers, number_answers, token_line};
 
-use console::Taken;
-use dimacs::{EndOfLine, Ends, Int, Uint};
+use console::Shortfall;
+use dimacs::{Ends, Int, Uint};
+use pages::Page;
 use std::io::{Stdin, Stdout};
 
 // The longest text.
@@ -21,210 +20,173 @@ const TEXT: usize = 255;
 // The longest line: two tests, thirteen places, two numbers and a literal with the places past them, a space after each, and the line end. A place and a number have at most 20 digits.
 const PAGE: usize = 395;
 
-fn bit(t: bool) -> u64
-    ensures { result ≡ bit t }
-{
-    if t { 1 } else { 0 }
-}
-
-// A place after a space.
-fn place(page: &mut [u8], at: usize, n: usize) -> usize
-    ensures { Lays at (printed_number n) page.old page.new result }
-{
-    pages::number(page, at, n as u64)
-}
-
 // The place past a number.
-fn next_place(page: &mut [u8], at: usize, n: usize) -> usize
-    ensures { Lays at (printed_past n) page.old page.new result }
+fn next_place(page: &mut Page, n: usize)
+    ensures { Laid (printed_past n) page.old page.new }
 {
-    let past = pages::word(page, at, b"@");
-    pages::plain_number(page, past, n as u64)
+    page.byte(b'@');
+    page.plain_number(n as u64);
 }
 
-fn end_of_line_words(page: &mut [u8], at: usize, e: EndOfLine) -> usize
-    ensures { Lays at (printed_end_of_line e) page.old page.new result }
+fn end_of_line_words(page: &mut Page, end: Option<usize>)
+    ensures { Laid (printed_end_of_line end) page.old page.new }
 {
-    match e {
-        EndOfLine::Missing => pages::word(page, at, b" -"),
-        EndOfLine::Past(next) => place(page, at, next),
+    match end {
+        None => page.word(b" -"),
+        Some(next) => page.number(next as u64),
     }
 }
 
-fn uint_words(page: &mut [u8], at: usize, u: Uint) -> usize
-    ensures { Lays at (printed_uint u) page.old page.new result }
+fn uint_words(page: &mut Page, u: Uint)
+    ensures { Laid (printed_uint u) page.old page.new }
 {
     match u {
-        Uint::Missing => pages::word(page, at, b" -"),
-        Uint::TooBig => pages::word(page, at, b" !"),
+        Uint::Missing => page.word(b" -"),
+        Uint::TooBig => page.word(b" !"),
         Uint::Value(n, next) => {
-            let past = pages::number(page, at, n);
-            next_place(page, past, next)
+            page.number(n);
+            next_place(page, next);
         }
     }
 }
 
-fn int_words(page: &mut [u8], at: usize, i: Int) -> usize
-    ensures { Lays at (printed_int i) page.old page.new result }
+fn int_words(page: &mut Page, i: Int)
+    ensures { Laid (printed_int i) page.old page.new }
 {
     match i {
-        Int::Missing => pages::word(page, at, b" -"),
-        Int::TooBig => pages::word(page, at, b" !"),
+        Int::Missing => page.word(b" -"),
+        Int::TooBig => page.word(b" !"),
         Int::Zero(next) => {
-            let past = pages::number(page, at, 0);
-            next_place(page, past, next)
+            page.number(0);
+            next_place(page, next);
         }
         Int::Literal(v, next) => {
-            let past = pages::literals(page, at, &[v]);
-            next_place(page, past, next)
+            page.literals(&[v]);
+            next_place(page, next);
         }
     }
 }
 
-fn test_answers(page: &mut [u8], at: usize, text: &[u8], from: usize) -> usize
-    ensures { Lays at (test_answers text.now from) page.old page.new result }
+fn test_answers(page: &mut Page, text: &[u8], from: usize)
+    ensures { Laid (test_answers text.now from) page.old page.new }
 {
-    let past = pages::plain_number(page, at, bit(token::eof(text, from)));
-    pages::number(page, past, bit(token::is_end_of_word(text, from)))
+    page.plain_number(u64::from(token::eof(text, from)));
+    page.number(u64::from(token::is_end_of_word(text, from)));
 }
 
-fn end_answers(page: &mut [u8], at: usize, text: &[u8], ends: Ends, from: usize) -> usize
-    ensures { Lays at (end_answers ends text.now from) page.old page.new result }
+fn end_answers(page: &mut Page, text: &[u8], ends: Ends, from: usize)
+    ensures { Laid (end_answers ends text.now from) page.old page.new }
 {
-    let past_tests = test_answers(page, at, text, from);
-    let past_blanks = place(page, past_tests, token::skip_whitespace(text, from));
-    let past_line = place(
-        page,
-        past_blanks,
-        token::interactive_skip_line(text, ends, from),
-    );
-    let past_newline = place(
-        page,
-        past_line,
-        token::interactive_newline(text, ends, from),
-    );
-    end_of_line_words(
-        page,
-        past_newline,
-        token::interactive_end_of_line(text, ends, from),
-    )
+    test_answers(page, text, from);
+    page.number(token::skip_whitespace(text, from) as u64);
+    page.number(token::interactive_skip_line(text, ends, from) as u64);
+    page.number(token::interactive_newline(text, ends, from) as u64);
+    end_of_line_words(page, token::interactive_end_of_line(text, ends, from));
 }
 
-fn line_answers(page: &mut [u8], at: usize, text: &[u8], ends: Ends, from: usize) -> usize
-    ensures { Lays at (line_answers ends text.now from) page.old page.new result }
+fn line_answers(page: &mut Page, text: &[u8], ends: Ends, from: usize)
+    ensures { Laid (line_answers ends text.now from) page.old page.new }
 {
-    let past_newline = place(page, at, token::newline(text, ends, from));
-    let past_line = place(page, past_newline, token::line_past(text, ends, from));
-    let past_comment = place(
-        page,
-        past_line,
-        token::interactive_strict_comment(text, ends, from),
-    );
-    let past_lines = place(
-        page,
-        past_comment,
-        token::comments_and_newlines(text, ends, from),
-    );
-    place(
-        page,
-        past_lines,
-        token::non_terminating_linebreaks(text, ends, from),
-    )
+    page.number(token::newline(text, ends, from) as u64);
+    page.number(token::line_past(text, ends, from) as u64);
+    page.number(token::interactive_strict_comment(text, ends, from) as u64);
+    page.number(token::comments_and_newlines(text, ends, from) as u64);
+    page.number(token::non_terminating_linebreaks(text, ends, from) as u64);
 }
 
-fn word_answers(page: &mut [u8], at: usize, text: &[u8], from: usize) -> usize
-    ensures { Lays at (word_answers text.now from) page.old page.new result }
+fn word_answers(page: &mut Page, text: &[u8], from: usize)
+    ensures { Laid (word_answers text.now from) page.old page.new }
 {
-    let past_comment = place(page, at, token::fixed(text, from, b"c "));
-    let past_verdict = place(page, past_comment, token::fixed(text, from, b"SATISFIABLE"));
-    let past_header = place(page, past_verdict, token::word(text, from, b"p"));
-    place(page, past_header, token::word(text, from, b"cnf"))
+    page.number(token::fixed(text, from, b"c ") as u64);
+    page.number(token::fixed(text, from, b"SATISFIABLE") as u64);
+    page.number(token::word(text, from, b"p") as u64);
+    page.number(token::word(text, from, b"cnf") as u64);
 }
 
-fn number_answers(page: &mut [u8], at: usize, text: &[u8], from: usize, limit: u64) -> usize
-    ensures { Lays at (number_answers text.now from limit) page.old page.new result }
+fn number_answers(page: &mut Page, text: &[u8], from: usize, limit: u64)
+    ensures { Laid (number_answers text.now from limit) page.old page.new }
 {
-    let past_uint = uint_words(page, at, numeral::uint(text, from, limit));
-    let past_braced = uint_words(page, past_uint, numeral::braced_uint(text, from, limit));
-    int_words(
-        page,
-        past_braced,
-        numeral::int(text, from, (limit % 4294967296) as u32),
-    )
+    uint_words(page, numeral::uint(text, from, limit));
+    uint_words(page, numeral::braced_uint(text, from, limit));
+    int_words(page, numeral::int(text, from, (limit % 4294967296) as u32));
 }
 
-fn token_line(page: &mut [u8], at: usize, text: &[u8], ends: Ends, from: usize, limit: u64) -> usize
-    ensures { Lays at (token_line ends text.now from limit) page.old page.new result }
+fn token_line(page: &mut Page, text: &[u8], ends: Ends, from: usize, limit: u64)
+    ensures { Laid (token_line ends text.now from limit) page.old page.new }
 {
-    let past_ends = end_answers(page, at, text, ends, from);
-    let past_lines = line_answers(page, past_ends, text, ends, from);
-    let past_words = word_answers(page, past_lines, text, from);
-    let past_numbers = number_answers(page, past_words, text, from, limit);
-    pages::word(page, past_numbers, b" \n")
+    end_answers(page, text, ends, from);
+    line_answers(page, text, ends, from);
+    word_answers(page, text, from);
+    number_answers(page, text, from, limit);
+    page.word(b" \n");
 }
 
 // What ends a line by a byte: LF and CR LF, or, for any byte but 0, a lone CR too.
 fn ends_of(b: u8) -> Ends {
-    if b == 0 {
-        return Ends::LineFeed;
+    match b {
+        0 => Ends::LineFeed,
+        _ => Ends::AlsoReturn,
     }
-    Ends::AlsoReturn
 }
 
-// The place, the limit and what ends a line of a case, and whether another case may follow.
-fn asked(stdin: &mut Stdin, stdout: &mut Stdout, page: &mut [u8], text: &[u8]) -> bool {
+// What follows the text of a case, and its line.
+fn asked(
+    stdin: &mut Stdin,
+    stdout: &mut Stdout,
+    page: &mut Page,
+    text: &[u8],
+) -> Result<(), Shortfall> {
     let mut numbers = [0u8; 17];
-    let taken = console::take(stdin, &mut numbers);
-    let Taken::Whole = taken else {
-        return console::stop(stdout, taken);
-    };
+    console::take(stdin, &mut numbers)?;
     let from = frame::u64_at(&numbers, 0) as usize;
     let ends = ends_of(frame::u8_at(&numbers, 16));
-    let past = token_line(page, 0, text, ends, from, frame::u64_at(&numbers, 8));
-    console::print(stdout, pages::upto(page, past));
-    true
+    token_line(page, text, ends, from, frame::u64_at(&numbers, 8));
+    page.show(stdout);
+    Ok(())
 }
 
-// The rest of a case whose text fills the slice lent, and whether another case may follow.
-fn case(stdin: &mut Stdin, stdout: &mut Stdout, page: &mut [u8], text: &mut [u8]) -> bool {
-    let taken = console::take(stdin, text);
-    let Taken::Whole = taken else {
-        return console::stop(stdout, taken);
-    };
+// The rest of a case whose text fills the slice lent.
+fn case(
+    stdin: &mut Stdin,
+    stdout: &mut Stdout,
+    page: &mut Page,
+    text: &mut [u8],
+) -> Result<(), Shortfall> {
+    console::take(stdin, text)?;
     asked(stdin, stdout, page, text)
 }
 
-fn size(b: u8) -> usize
-    ensures { result ≤ 255 }
-{
-    b as usize
-}
-
-// One case, and whether another may follow. Its first byte is there or the input has ended.
-fn one(stdin: &mut Stdin, stdout: &mut Stdout, page: &mut [u8]) -> bool {
+// One case, and whether there was one.
+fn one(stdin: &mut Stdin, stdout: &mut Stdout, page: &mut Page) -> Result<bool, Shortfall> {
     let mut first = [0u8; 1];
-    let taken = console::take(stdin, &mut first);
-    match taken {
-        Taken::Whole => {
-            let n = size(frame::u8_at(&first, 0));
-            let mut text = [0u8; TEXT];
-            case(stdin, stdout, page, &mut text[..n])
-        }
-        Taken::Part(_) => false,
-        Taken::Failed => console::stop(stdout, taken),
+    match console::take(stdin, &mut first) {
+        Ok(()) => {}
+        Err(Shortfall::Part(_)) => return Ok(false),
+        Err(Shortfall::Failed) => return Err(Shortfall::Failed),
     }
+    let mut text = [0u8; TEXT];
+    let n = usize::from(first[0]);
+    case(stdin, stdout, page, &mut text[..n])?;
+    Ok(true)
 }
 
-fn cases(stdin: &mut Stdin, stdout: &mut Stdout, page: &mut [u8]) {
-    let mut turns = u64::MAX;
-    while turns > 0 && one(stdin, stdout, page) {
-        turns -= 1;
+fn cases(stdin: &mut Stdin, stdout: &mut Stdout, page: &mut Page) -> Result<(), Shortfall> {
+    for _ in 0..u64::MAX {
+        if !one(stdin, stdout, page)? {
+            return Ok(());
+        }
     }
+    Ok(())
 }
 
 fn main(rt: HostRuntime) {
     let mut stdin = rt.stdin();
     let mut stdout = rt.stdout();
-    let mut page = [0u8; PAGE];
-    cases(&mut stdin, &mut stdout, &mut page);
+    let mut bytes = [0u8; PAGE];
+    let mut page = Page {
+        bytes: &mut bytes,
+        at: 0,
+    };
+    let ended = cases(&mut stdin, &mut stdout, &mut page);
+    console::stop(&mut stdout, ended);
 }
