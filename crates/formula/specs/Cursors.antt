@@ -1,6 +1,7 @@
 -- The cursors and answers of the code, by those of the definition.
-use Rattle.std.specs.Prelude.{ℕ, Bool, cond, not, ◌&&◌, List, ◌≡◌, eqb, leb, length, ℤ}
-use Rattle.dimacs.specs.Names.{Reason, call_refusal, in_mode, kind_of}
+use Rattle.std.specs.Prelude.{ℕ, Bool, cond, not, ◌&&◌, List, ◌≡◌, eqb, leb, length, ℤ, Option, Some, None, Result, Ok, Err}
+use Rattle.dimacs.specs.Names.{call_refusal, in_mode, kind_of}
+use Rattle.dimacs.specs.declared.Reason.{Reason}
 use Rattle.dimacs.specs.Lined.{lined}
 use Rattle.dimacs.specs.Header.{opening_of}
 use Rattle.dimacs.specs.Buffers.{laid}
@@ -21,12 +22,8 @@ use Rattle.dimacs.specs.declared.Kind.TheVariants as kind
 use Rattle.dimacs.specs.declared.Absence.{Absence}
 use Rattle.dimacs.specs.declared.Absence.TheVariants.{MayEnd, NoClause}
 use Rattle.dimacs.specs.declared.Progress.{Progress}
-use Rattle.dimacs.specs.declared.Final.{Final}
-use Rattle.dimacs.specs.declared.Final.TheVariants as final
 use Rattle.header.specs.Headed.{limits_after}
-use Rattle.clause.specs.Answers.{left_by, answered_of}
-use Rattle.clause.specs.declared.Next.{Next}
-use Rattle.clause.specs.declared.Next.TheVariants as next
+use Rattle.clause.specs.Answers.{Next, left_by, answered_of}
 use Rattle.clause.specs.declared.Answered.{Answered}
 use Rattle.formula.specs.declared.Cursor.{Cursor}
 use Rattle.formula.specs.declared.Opened.{Opened}
@@ -37,13 +34,13 @@ abbrev pub cursor_of : Format → Ends → Limits → Progress → Cursor
 cursor_of f rule limits p = record { progress = p; limits = limits; format = f; ends = rule }
 
 -- How far a text is read where its clauses begin, by its opening. After a refused header the refusal is repeated.
-abbrev pub begun_by : Opening → Progress
-begun_by (opening.Header h at) = texts.begin at
-begun_by (opening.NoHeader at) = texts.begin at
-begun_by (opening.Refused r) = texts.progress r.place 0 (final.Refused r)
+abbrev pub begun_by : Result Opening Refusal → Progress
+begun_by (Ok (opening.Header h at)) = texts.begin at
+begun_by (Ok (opening.NoHeader at)) = texts.begin at
+begun_by (Err r) = texts.progress r.place 0 (Some (Err r))
 
 -- The cursor with which a text's clauses begin, by its opening.
-abbrev pub opened_by : Format → Mode → Opening → Cursor
+abbrev pub opened_by : Format → Mode → Result Opening Refusal → Cursor
 opened_by f m o = cursor_of f m.ends (limits_after f m.rigor o) (begun_by o)
 
 -- A text opened in a format and a mode.
@@ -53,14 +50,14 @@ opened_as f m s = let o = opening_of (lined m.ends s) f in record { opening = o;
 -- Refusal 26.
 abbrev pub unknown : Opened
 unknown =
-    let r : Refusal = call_refusal Reason.format_or_mode_unknown 0 in
-    record { opening = opening.Refused r; cursor = opened_by Plain (in_mode Strict LineFeed) (opening.Refused r) }
+    let r : Refusal = call_refusal Reason.FormatOrModeUnknown 0 in
+    record { opening = Err r; cursor = opened_by Plain (in_mode Strict LineFeed) (Err r) }
 
 -- A text opened by what its numbers name. A log is no text of clauses.
-abbrev pub opened_kind : Kind → List ℕ → Opened
-opened_kind (kind.Clauses f m) s = opened_as f m s
-opened_kind (kind.Log m) s = unknown
-opened_kind kind.Unknown s = unknown
+abbrev pub opened_kind : Option Kind → List ℕ → Opened
+opened_kind (Some (kind.Clauses f m)) s = opened_as f m s
+opened_kind (Some (kind.Log m)) s = unknown
+opened_kind None s = unknown
 
 -- A text opened by numbers.
 abbrev pub opened : ℕ → ℕ → List ℕ → Opened
@@ -79,10 +76,10 @@ abbrev pub answer_from : List ℕ → ℕ → Cursor → def.Answered
 answer_from s room c = texts.answer_at (lined c.ends s) c.format c.limits room c.progress
 
 -- The end and a refusal are final.
-abbrev pub last_of : Next → Final
-last_of (next.Clause extra n) = final.Open
-last_of next.Ended = final.Ended
-last_of (next.Refused r n) = final.Refused r
+abbrev pub last_of : Next → Option (Result Unit Refusal)
+last_of (Ok (Some c)) = None
+last_of (Ok None) = Some (Ok tt)
+last_of (Err x) = Some (Err x.refusal)
 
 -- The cursor after an answer at a place.
 abbrev pub cursor_after : Cursor → ℕ → Next → Cursor

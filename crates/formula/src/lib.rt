@@ -6,7 +6,7 @@
 ghost use Rattle.std.specs.Prelude.{◌≡◌, length};
 ghost use Rattle.dimacs.specs.Names.{own_room};
 ghost use Rattle.dimacs.specs.Lined.{lined};
-ghost use Rattle.dimacs.specs.Texts.{progress, next_clause, one_more, settled_by};
+ghost use Rattle.dimacs.specs.Texts.{progress, next_clause, settled_by};
 ghost use Rattle.token.specs.Words.{WordAt};
 ghost use Rattle.clause.specs.Answers.{Answers};
 ghost use Rattle.formula.specs.Cursors.{cursor_of, opened_as, opened, unknown, answer_from, reached, absence_of, last_of, settled_as, Steps};
@@ -14,12 +14,13 @@ ghost use Rattle.formula.specs.Whole.{outcome_from, outcome_in};
 
 use clause::{Answered, Next};
 use dimacs::{
-    Absence, Ends, FORMAT_OR_MODE_UNKNOWN, Final, Format, Kind, LARGEST, Limits, Mode, Opening,
-    Progress, ROOM, Refusal, kind_of, refuse_call,
+    Absence, Ends, Format, Kind, Limits, Mode, Opening, Progress, ROOM, Reason, Refusal, kind_of,
+    refuse_call,
 };
+use rows::Stopped;
 
 // Where a text is read: how far it is read, the limits of its clauses, its format, and what ends its lines.
-#[derive(Clone, Copy)]
+#[derive(Clone, Copy, Debug, PartialEq, Eq)]
 pub struct Cursor {
     pub progress: Progress,
     pub limits: Limits,
@@ -28,21 +29,27 @@ pub struct Cursor {
 }
 
 // How a text opens, and the cursor with which its clauses begin.
-#[derive(Clone, Copy)]
+#[derive(Clone, Copy, Debug, PartialEq, Eq)]
 pub struct Opened {
-    pub opening: Opening,
+    pub opening: Result<Opening, Refusal>,
     pub cursor: Cursor,
 }
 
 // An answer, and the cursor to go on with.
-#[derive(Clone, Copy)]
+#[derive(Clone, Copy, Debug, PartialEq, Eq)]
 pub struct Stepped {
     pub answer: Next,
     pub cursor: Cursor,
 }
 
 // The cursor of a text of which no clause is read.
-fn begin(format: Format, ends: Ends, limits: Limits, place: usize, last: Final) -> Cursor
+fn begin(
+    format: Format,
+    ends: Ends,
+    limits: Limits,
+    place: usize,
+    last: Option<Result<(), Refusal>>,
+) -> Cursor
     ensures { result ≡ cursor_of format ends limits (progress place 0 last) }
 {
     Cursor {
@@ -58,26 +65,20 @@ fn begin(format: Format, ends: Ends, limits: Limits, place: usize, last: Final) 
 }
 
 // The text opened in a format and a mode.
+#[tactic(auto, unfolding(crate::specs::Cursors::opened_as, header::specs::Headed::headed_in))]
 pub fn open_as(text: &[u8], format: Format, mode: Mode) -> Opened
     ensures { result ≡ opened_as format mode text.now }
 {
     let headed = header::parse_header(text, format, mode);
     let opening = headed.opening;
-    let limits = headed.limits;
-    let ends = mode.ends;
-    match opening {
-        Opening::Header(_, place) => Opened {
-            opening,
-            cursor: begin(format, ends, limits, place, Final::Open),
-        },
-        Opening::NoHeader(place) => Opened {
-            opening,
-            cursor: begin(format, ends, limits, place, Final::Open),
-        },
-        Opening::Refused(refusal) => Opened {
-            opening,
-            cursor: begin(format, ends, limits, refusal.place, Final::Refused(refusal)),
-        },
+    let (place, last) = match opening {
+        Ok(Opening::Header(_, place)) => (place, None),
+        Ok(Opening::NoHeader(place)) => (place, None),
+        Err(refusal) => (refusal.place, Some(Err(refusal))),
+    };
+    Opened {
+        opening,
+        cursor: begin(format, mode.ends, headed.limits, place, last),
     }
 }
 
@@ -85,16 +86,16 @@ pub fn open_as(text: &[u8], format: Format, mode: Mode) -> Opened
 fn opened_unknown() -> Opened
     ensures { result ≡ unknown }
 {
-    let refusal = refuse_call(FORMAT_OR_MODE_UNKNOWN, 0);
+    let refusal = refuse_call(Reason::FormatOrModeUnknown, 0);
     let limits = header::no_limits();
     Opened {
-        opening: Opening::Refused(refusal),
+        opening: Err(refusal),
         cursor: begin(
             Format::Plain,
             Ends::LineFeed,
             limits,
             refusal.place,
-            Final::Refused(refusal),
+            Some(Err(refusal)),
         ),
     }
 }
@@ -104,30 +105,16 @@ pub fn open(text: &[u8], format: u8, mode: u8) -> Opened
     ensures { result ≡ opened format mode text.now }
 {
     match kind_of(format, mode) {
-        Kind::Clauses(format, mode) => open_as(text, format, mode),
-        Kind::Log(_) => opened_unknown(),
-        Kind::Unknown => opened_unknown(),
+        Some(Kind::Clauses(format, mode)) => open_as(text, format, mode),
+        _ => opened_unknown(),
     }
-}
-
-// One clause more, as far as a count goes.
-fn one_more(count: u64) -> u64
-    ensures { result ≡ one_more count }
-{
-    if count < LARGEST {
-        return count + 1;
-    }
-    count
 }
 
 // Whether the count of clauses is reached, where one applies.
 fn reached(most: u64, count: u64) -> bool
     ensures { result ≡ reached most count }
 {
-    if most == 0 {
-        return false;
-    }
-    most <= count
+    most != 0 && most <= count
 }
 
 // Where no count of clauses applies, the text may end before any of them.
@@ -135,35 +122,33 @@ fn absence_of(most: u64) -> Absence
     ensures { result ≡ absence_of most }
 {
     if most == 0 {
-        return Absence::MayEnd;
+        Absence::MayEnd
+    } else {
+        Absence::NoClause
     }
-    Absence::NoClause
 }
 
 // The end and a refusal are final.
-fn final_of(answer: Next) -> Final
+fn final_of(answer: Next) -> Option<Result<(), Refusal>>
     ensures { result ≡ last_of answer }
 {
     match answer {
-        Next::Clause { extra: _, count: _ } => Final::Open,
-        Next::Ended => Final::Ended,
-        Next::Refused { refusal, count: _ } => Final::Refused(refusal),
+        Ok(Some(_)) => None,
+        Ok(None) => Some(Ok(())),
+        Err(stopped) => Some(Err(stopped.refusal)),
     }
 }
 
 // How far a text is read after so many clauses and an answer at a place. A clause is counted.
-fn settled(count: u64, place: usize, last: Final) -> Progress
+fn settled(count: u64, place: usize, last: Option<Result<(), Refusal>>) -> Progress
     ensures { result ≡ settled_by count place last }
 {
-    match last {
-        Final::Open => Progress {
-            place,
-            count: one_more(count),
-            last,
-        },
-        Final::Ended => Progress { place, count, last },
-        Final::Refused(_) => Progress { place, count, last },
-    }
+    let count = if last.is_none() {
+        count.saturating_add(1)
+    } else {
+        count
+    };
+    Progress { place, count, last }
 }
 
 impl Cursor {
@@ -171,37 +156,40 @@ impl Cursor {
     fn look(self, text: &[u8], lits: &mut [i32]) -> Answered
         ensures { Answers (next_clause (lined self.ends text.now) self.format self.limits (length lits.old) self.progress.count self.progress.place) lits.old lits.new result }
     {
-        let format = self.format;
-        let ends = self.ends;
-        let limits = self.limits;
-        let progress = self.progress;
-        let most = limits.clauses;
+        let most = self.limits.clauses;
         let at = token::comments_and_newlines(
             text,
-            ends,
-            token::skip_whitespace(text, progress.place),
+            self.ends,
+            token::skip_whitespace(text, self.progress.place),
         );
-        if reached(most, progress.count) {
-            return clause::no_clause(text, ends, at);
+        if reached(most, self.progress.count) {
+            return clause::no_clause(text, self.ends, at);
         }
-        clause::clause_at(text, ends, at, format, limits, absence_of(most), lits)
+        clause::clause_at(
+            text,
+            self.ends,
+            at,
+            self.format,
+            self.limits,
+            absence_of(most),
+            lits,
+        )
     }
 
     // The next answer: the final one again, once there is one.
+    #[tactic(auto, unfolding(dimacs::specs::Texts::answer_at))]
     fn answer(self, text: &[u8], lits: &mut [i32]) -> Answered
         ensures { Answers (answer_from text.now (length lits.old) self) lits.old lits.new result }
     {
-        let progress = self.progress;
-        let place = progress.place;
-        let last = progress.last;
-        match last {
-            Final::Open => self.look(text, lits),
-            Final::Ended => Answered {
-                answer: Next::Ended,
+        let place = self.progress.place;
+        match self.progress.last {
+            None => self.look(text, lits),
+            Some(Ok(())) => Answered {
+                answer: Ok(None),
                 place,
             },
-            Final::Refused(refusal) => Answered {
-                answer: Next::Refused { refusal, count: 0 },
+            Some(Err(refusal)) => Answered {
+                answer: Err(Stopped { refusal, count: 0 }),
                 place,
             },
         }
@@ -211,19 +199,11 @@ impl Cursor {
     fn settle(self, a: Answered) -> Stepped
         ensures { result ≡ settled_as self a }
     {
-        let format = self.format;
-        let ends = self.ends;
-        let limits = self.limits;
-        let before = self.progress;
-        let answer = a.answer;
-        let progress = settled(before.count, a.place, final_of(answer));
         Stepped {
-            answer,
+            answer: a.answer,
             cursor: Cursor {
-                progress,
-                limits,
-                format,
-                ends,
+                progress: settled(self.progress.count, a.place, final_of(a.answer)),
+                ..self
             },
         }
     }
@@ -240,22 +220,12 @@ impl Cursor {
     pub fn stopped_at(self, text: &[u8]) -> &[u8]
         ensures { WordAt text.entry self.ends self.progress.place result }
     {
-        let ends = self.ends;
-        let progress = self.progress;
-        token::stopped_at(text, ends, progress.place)
+        token::stopped_at(text, self.ends, self.progress.place)
     }
 }
 
-// What a whole text comes to.
-#[derive(Clone, Copy)]
-pub enum Outcome {
-    // It is read to its end.
-    Read,
-    Refused(Refusal),
-}
-
 // The whole text from a cursor on, with room for as many literals in a clause as where the caller lends no buffer.
-fn read_on(text: &[u8], from: Cursor) -> Outcome
+fn read_on(text: &[u8], from: Cursor) -> Result<(), Refusal>
     ensures { result ≡ outcome_from text.now own_room from }
 {
     let mut lits = [0i32; ROOM];
@@ -263,17 +233,16 @@ fn read_on(text: &[u8], from: Cursor) -> Outcome
     loop {
         let step = cursor.next_clause(text, &mut lits);
         cursor = step.cursor;
-        let answer = step.answer;
-        match answer {
-            Next::Clause { extra: _, count: _ } => {}
-            Next::Ended => return Outcome::Read,
-            Next::Refused { refusal, count: _ } => return Outcome::Refused(refusal),
+        match step.answer {
+            Ok(Some(_)) => {}
+            Ok(None) => return Ok(()),
+            Err(stopped) => return Err(stopped.refusal),
         }
     }
 }
 
-// The whole text in a format and a mode.
-pub fn read_text(text: &[u8], format: Format, mode: Mode) -> Outcome
+// The whole text in a format and a mode: read to its end, or its refusal.
+pub fn read_text(text: &[u8], format: Format, mode: Mode) -> Result<(), Refusal>
     ensures { result ≡ outcome_in format mode text.now }
 {
     read_on(text, open_as(text, format, mode).cursor)

@@ -6,8 +6,8 @@ use Rattle.dimacs.proofs.Clauses.{to_come}
 use Rattle.formula.specs.Whole.{outcome_from}
 use Rattle.formula.proofs.read_on.Given as goal
 
-abbrev pub invariant-loop-refusal : goal.invariant-loop-refusal
-invariant-loop-refusal l = (length l.lits ≡ own_room) × (outcome_from l.text own_room l.initial.cursor ≡ outcome_from l.text own_room l.cursor)
+abbrev pub invariant-loop-stopped : goal.invariant-loop-stopped
+invariant-loop-stopped l = (length l.lits ≡ own_room) × (outcome_from l.text own_room l.initial.cursor ≡ outcome_from l.text own_room l.cursor)
 
-abbrev pub decreases-loop-refusal : goal.decreases-loop-refusal
-decreases-loop-refusal l = to_come l.text l.cursor.progress.place
+abbrev pub decreases-loop-stopped : goal.decreases-loop-stopped
+decreases-loop-stopped l = to_come l.text l.cursor.progress.place
