@@ -2,7 +2,7 @@
 #![tactic(auto)]
 
 ghost use Rattle.std.specs.Prelude.{◌≡◌, min};
-ghost use Rattle.numbers.specs.Words.{refusal_words};
+ghost use Rattle.numbers.specs.Words.{refusal_words, refusal_of};
 
 use dimacs::Refusal;
 
@@ -23,4 +23,17 @@ pub fn refusal_words(refusal: Refusal) -> [u64; 4]
         refusal.line as u64,
         refusal.column as u64,
     ]
+}
+
+// The refusal that such words tell. Its number is a byte.
+pub fn refusal_of(words: [u64; 4]) -> Refusal
+    ensures { result ≡ refusal_of words }
+{
+    let [number, place, line, column] = words;
+    Refusal {
+        number: narrowed(number),
+        place: place as usize,
+        line: line as usize,
+        column: column as usize,
+    }
 }
