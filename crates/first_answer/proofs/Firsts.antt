@@ -5,7 +5,7 @@ use mathlib.Core.Path.{◌≡◌, refl, ap, sym, ◌∙◌, subst}
 use lib.ListN.{length}
 use lib.IntN.{ℤ}
 use denote.Ref.{Bor}
-use Rattle.clause.specs.declared.Next.{Next}
+use Rattle.clause.specs.Answers.{Next}
 use Rattle.formula.specs.declared.Stepped.{Stepped}
 use Rattle.formula.specs.Cursors.{opened, step_of, Steps}
 use Rattle.formula.proofs.Runs.{CountFits, steps_fit}

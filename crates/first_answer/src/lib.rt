@@ -4,12 +4,12 @@
 ghost use Rattle.first_answer.specs.Firsts.{ReadsFirst};
 
 use clause::Next;
-use dimacs::Opening;
+use dimacs::{Opening, Refusal};
 
 // How a text opens, its first answer, and the place after it.
-#[derive(Clone, Copy)]
+#[derive(Clone, Copy, Debug, PartialEq, Eq)]
 pub struct First {
-    pub opening: Opening,
+    pub opening: Result<Opening, Refusal>,
     pub answer: Next,
     pub place: usize,
 }

@@ -2,7 +2,7 @@
 use mathlib.Core.List.{List}
 use mathlib.Core.Path.{◌≡◌, ap, sym, ◌∙◌}
 use lib.IntN.{ℤ}
-use Rattle.clause.specs.declared.Next.{Next}
+use Rattle.clause.specs.Answers.{Next}
 use Rattle.formula.specs.declared.Stepped.{Stepped}
 use Rattle.formula.proofs.Runs.{one_step}
 use Rattle.reader.specs.declared.Reader.{Reader}

@@ -1,7 +1,7 @@
 -- A reader is a text with a cursor: its answers are the cursor's.
 use Rattle.std.specs.Prelude.{ℕ, List, ◌≡◌, ℤ}
 use Rattle.std.specs.Borrow.{Bor}
-use Rattle.clause.specs.declared.Next.{Next}
+use Rattle.clause.specs.Answers.{Next}
 use Rattle.formula.specs.Cursors.{opened, Steps}
 use Rattle.reader.specs.declared.Reader.{Reader}
 use Rattle.reader.specs.declared.Opened.{Opened}

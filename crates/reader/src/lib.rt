@@ -8,20 +8,20 @@ ghost use Rattle.token.specs.Words.{WordAt};
 ghost use Rattle.reader.specs.Readers.{opened_on, Reads};
 
 use clause::Next;
-use dimacs::Opening;
+use dimacs::{Opening, Refusal};
 use formula::Cursor;
 
 // A text, and the cursor with which it is read.
-#[derive(Clone, Copy)]
+#[derive(Clone, Copy, Debug, PartialEq, Eq)]
 pub struct Reader<'a> {
     pub text: &'a [u8],
     pub cursor: Cursor,
 }
 
 // How a text opens, and the reader of its clauses.
-#[derive(Clone, Copy)]
+#[derive(Clone, Copy, Debug, PartialEq, Eq)]
 pub struct Opened<'a> {
-    pub opening: Opening,
+    pub opening: Result<Opening, Refusal>,
     pub reader: Reader<'a>,
 }
 
