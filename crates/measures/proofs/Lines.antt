@@ -1,5 +1,5 @@
 -- How long lines and their parts are. Assumes nothing.
-use Prim.Native.Nat.{ℕ, ◌+◌, ◌≤◌}
+use Prim.Native.Nat.{ℕ, ◌+◌, ◌/◌, ◌≤◌}
 use mathlib.Core.List.{List, ◌++◌, append_assoc}
 use mathlib.Core.Path.{◌≡◌, ap, ◌∙◌}
 use native.Mathlib.Omega.{arith}
@@ -13,6 +13,7 @@ use Rattle.dimacs.specs.Writing.{digits, items, lead, third_digits, header_line,
 use Rattle.dimacs.specs.declared.Format.{Format}
 use Rattle.dimacs.specs.declared.Format.TheVariants.{Plain, Weighted, Grouped, Weighted2022}
 use Rattle.dimacs.specs.declared.Header.{Header}
+use Rattle.decimals.proofs.Digits.{digits_bounded}
 use Rattle.dimacs.proofs.Tests.{chosen}
 use Rattle.measures.specs.Lines.{header_start, header_count}
 
@@ -46,6 +47,10 @@ module _ (f : Format) (h : Header) where
 
   pub header_long : length (header_line f h) ≡ length (header_start f) + length (digits h.variables) + length (digits h.clauses) + length (third_digits f h.third) + 3
   header_long = ap length header_to_come ∙ simp length-append (omega arith)
+
+-- Counts, weights and groups, and a header's start and third count, are not long.
+pub digits_few : (n : ℕ) → length (digits n) ≤ n / 10 + 1
+digits_few n = omega (arith, digits_bounded n)
 
 pub start_bounded : (f : Format) → length (header_start f) ≤ 6
 start_bounded Plain = omega arith

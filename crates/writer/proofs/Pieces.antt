@@ -1,15 +1,15 @@
 -- Pieces of a line put with room for the rest. Assumes nothing.
-use Prim.Native.Nat.{ℕ, ◌+◌, ◌≤◌, ◌<◌}
+use Prim.Native.Nat.{ℕ, ◌+◌, ◌≤◌}
 use mathlib.Core.List.{List, [], ◌∷◌, ◌++◌}
 use mathlib.Core.Path.{◌≡◌, refl, ap, sym, ◌∙◌}
 use native.Mathlib.Numerals.{add-one}
 use native.Mathlib.Omega.{arith}
 use lib.Dec.{leb}
-use lib.ListN.{length, get_or, set, take, length-append}
-use lib.Seq.{sets, length-sets, take-suc, take_all, length-take-le}
+use lib.ListN.{length, set, drop, length-append}
+use lib.Seq.{sets-eq}
 use Rattle.dimacs.proofs.Tests.{chosen}
 use Rattle.decimals.specs.Pieces.{PutAt, if_room}
-use Rattle.decimals.proofs.Pieces.{puts_whole, sets-append, put_nothing, put_then, put_keeps_length}
+use Rattle.decimals.proofs.Pieces.{puts_whole, put_nothing, put_then, put_keeps_length}
 
 -- No piece is put, whatever room there is.
 pub put_nothing_if_room : (at : ℕ) (old : List ℕ) → PutAt at (if_room at [] old) old old at
@@ -50,24 +50,8 @@ put_one at a old = record { past = refl; output = refl }
 pub put_two : (at a b : ℕ) (old : List ℕ) → PutAt at (a ∷ b ∷ []) old (set (set old at a) (at + 1) b) (at + 2)
 put_two at a b old = record { past = refl; output = rw (add-one at) }
 
--- The first bytes of a piece stand at the output's front.
-pub record Copied (piece old out : List ℕ) (i : ℕ) : Type 0 where
-  pub within : i ≤ length piece
-  pub output : out ≡ sets old 0 (take i piece)
-
-pub copied_more : {piece old out : List ℕ} {i : ℕ} → Copied piece old out i → i < length piece → Copied piece old (set out i (get_or piece i 0)) (i + 1)
-copied_more {piece} {old} {out} {i} h l =
-    let k = length-take-le i piece h.within in
-    record {
-      within = omega arith;
-      output =
-          rw (add-one, take-suc piece i 0 l)
-          (ap (λ o. set o i (get_or piece i 0)) h.output ∙ sym (sets-append (take i piece) (get_or piece i 0 ∷ []) old 0 ∙ ap (λ n. set (sets old 0 (take i piece)) n (get_or piece i 0)) (omega (arith, k))));
-    }
-
-pub copied_all : {piece old out : List ℕ} {i : ℕ} → Copied piece old out i → length piece ≤ i → PutAt 0 piece old out i
-copied_all {piece} {old} {out} {i} h l =
-    record { past = omega (arith, h.within); output = h.output ∙ ap (sets old 0) (take_all i piece l) }
-
-pub copied_keeps_length : {piece old out : List ℕ} {i : ℕ} → Copied piece old out i → length out ≡ length old
-copied_keeps_length {piece} {old} {out} {i} h = ap length h.output ∙ length-sets old 0 (take i piece)
+-- A piece that is copied to the output's front.
+pub put_front : (piece old : List ℕ) → length piece ≤ length old → PutAt 0 piece old (piece ++ drop (length piece) old) (length piece)
+put_front piece old h =
+    let k : 0 + length piece ≡ length piece = omega arith in
+    record { past = omega arith; output = sym (sets-eq piece old 0 (omega arith) ∙ ap (λ n. piece ++ drop n old) k) }

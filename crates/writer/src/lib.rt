@@ -9,12 +9,11 @@ ghost use Rattle.dimacs.specs.Names.{call_refusal};
 ghost use Rattle.dimacs.specs.Writing.{items, lead, third_digits, header_line, clause_line, write_header, write_line, write_clause, write_hard_clause};
 ghost use Rattle.dimacs.specs.declared.Format.{Format};
 ghost use Rattle.decimals.specs.Pieces.{PutAt, if_room};
-ghost use Rattle.measures.specs.Lines.{header_start};
 ghost use Rattle.writer.specs.Answers.{Writes};
 
 use decimals::{put_digits, put_digits_after, put_literal};
 use dimacs::{CEILING, Format, HARD, Header, Reason, Refusal, refuse_call};
-use measures::{around_length, header_length, left_after, writable};
+use measures::{around_length, header_length, header_start, left_after, writable};
 
 // Literals, each with the space after it.
 fn put_literals(out: &mut [u8], at: usize, lits: &[i32]) -> usize
@@ -22,12 +21,10 @@ fn put_literals(out: &mut [u8], at: usize, lits: &[i32]) -> usize
     ensures { PutAt at (items lits.now) out.old out.new result }
 {
     let mut place = at;
-    let mut i: usize = 0;
-    while i < lits.len() {
-        place = put_literal(out, place, lits[i]);
+    for lit in lits {
+        place = put_literal(out, place, *lit);
         out[place] = b' ';
         place += 1;
-        i += 1;
     }
     place
 }
@@ -37,12 +34,8 @@ fn put_bytes(out: &mut [u8], piece: &[u8]) -> usize
     requires { length piece.now ≤ length out.old }
     ensures { PutAt 0 piece.now out.old out.new result }
 {
-    let mut i: usize = 0;
-    while i < piece.len() {
-        out[i] = piece[i];
-        i += 1;
-    }
-    i
+    out[..piece.len()].copy_from_slice(piece);
+    piece.len()
 }
 
 // A weight with its space.
@@ -62,19 +55,14 @@ fn put_lead(out: &mut [u8], format: Format, extra: u64) -> usize
 {
     match format {
         Format::Plain => 0,
-        Format::Weighted => put_weight(out, extra),
         Format::Grouped => {
             let past = put_digits_after(out, 0, b'{', extra);
             out[past] = b'}';
             out[past + 1] = b' ';
             past + 2
         }
-        Format::Weighted2022 => {
-            if extra == HARD {
-                return put_bytes(out, b"h ");
-            }
-            put_weight(out, extra)
-        }
+        Format::Weighted2022 if extra == HARD => put_bytes(out, b"h "),
+        Format::Weighted | Format::Weighted2022 => put_weight(out, extra),
     }
 }
 
@@ -94,9 +82,10 @@ fn refuse_unless(holds: bool, reason: Reason, index: usize) -> Result<(), Refusa
     ensures { result ≡ (if holds then Ok tt else Err (call_refusal reason index)) }
 {
     if holds {
-        return Ok(());
+        Ok(())
+    } else {
+        Err(refuse_call(reason, index))
     }
-    Err(refuse_call(reason, index))
 }
 
 // The line of a clause, hard if the format has hard clauses and `extra` says so.
@@ -142,34 +131,22 @@ pub fn write_hard_clause(format: Format, lits: &[i32], out: &mut [u8]) -> Result
     write_line(format, HARD, lits, out)
 }
 
-// What a header begins with, up to its word.
-fn put_start(out: &mut [u8], format: Format) -> usize
-    requires { length (header_start format) ≤ length out.old }
-    ensures { PutAt 0 (header_start format) out.old out.new result }
-{
-    match format {
-        Format::Plain => put_bytes(out, b"p cnf"),
-        Format::Weighted => put_bytes(out, b"p wcnf"),
-        Format::Grouped => put_bytes(out, b"p gcnf"),
-        Format::Weighted2022 => put_bytes(out, b"p "),
-    }
-}
-
 // The third count, if the format has one.
 fn put_third(out: &mut [u8], at: usize, format: Format, third: u64) -> usize
     ensures { PutAt at (if_room at (third_digits format third) out.old) out.old out.new result }
 {
     if format.has_third() {
-        return put_digits_after(out, at, b' ', third);
+        put_digits_after(out, at, b' ', third)
+    } else {
+        at
     }
-    at
 }
 
 fn put_header(out: &mut [u8], format: Format, header: Header) -> usize
     requires { length (header_line format header) ≤ length out.old }
     ensures { PutAt 0 (header_line format header) out.old out.new result }
 {
-    let past_start = put_start(out, format);
+    let past_start = put_bytes(out, header_start(format));
     let past_variables = put_digits_after(out, past_start, b' ', header.variables);
     let past_clauses = put_digits_after(out, past_variables, b' ', header.clauses);
     let past = put_third(out, past_clauses, format, header.third);

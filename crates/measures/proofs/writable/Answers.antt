@@ -1,29 +1,16 @@
--- `measures::writable` meets its contract: a run of literals, as `past` is one of bytes. Assumes nothing.
-use borrow.Author.Rules.{rules}
-use mathlib.Core.Bool.{true, false}
-use mathlib.Core.Path.{◌≡◌, ap, sym, ◌∙◌}
-use mir.Syntax.{w32}
-use mir.Val.{to_z, of_z}
-use native.Mathlib.Omega.{arith}
-use lib.IntN.{pos}
-use lib.ListN.{get_or}
+-- `measures::writable` meets its contract: the literals that are taken are the run. Assumes nothing.
+use Rattle.std.proofs.Common.{rules, ◌∙◌}
+use Rattle.std.proofs.Common.{tests}
+use Rattle.std.proofs.lemmas.Iterator.{YieldsList-from_slice}
+use Rattle.std.proofs.lemmas.Iterator.Consumers.{count_from_yields_List}
+use Rattle.std.proofs.lemmas.Iterator.Search.{YieldsList-from_take_while}
+use Rattle.std.proofs.lemmas.List.Folds.{length-prefix_len}
 use Rattle.dimacs.specs.Writing.{is_literal}
-use Rattle.dimacs.proofs.Past.{run_more, run_stop, run_end}
+use Rattle.measures.proofs.Literals.{run_front}
 use Rattle.measures.proofs.writable.Goals as goal
 
-pub loop-i-preserved : goal.loop-i-preserved
-loop-i-preserved c =
-    let x = get_or c.args.lits.now c.loop-i.i (pos 0) in
-    let z : to_z w32 (of_z w32 x) ≡ x = search rules in
-    let judged : is_literal x ≡ true = sym (c.is_literal.ensures ∙ ap is_literal z) ∙ c.if-is_literal.true in
-    omega (arith, c.loop-i.invariant, run_more is_literal c.args.lits.now (pos 0) c.loop-i.i c.loop-i-test.true judged)
-
-pub returns-else-is_literal : goal.returns-else-is_literal
-returns-else-is_literal c =
-    let x = get_or c.args.lits.now c.loop-i.i (pos 0) in
-    let z : to_z w32 (of_z w32 x) ≡ x = search rules in
-    let judged : is_literal x ≡ false = sym (c.is_literal.ensures ∙ ap is_literal z) ∙ c.if-is_literal.false in
-    omega (arith, c.loop-i.invariant, run_stop is_literal c.args.lits.now (pos 0) c.loop-i.i c.loop-i-test.true judged)
-
 pub returns : goal.returns
-returns c = omega (arith, c.loop-i.invariant, run_end is_literal c.args.lits.now (pos 0) _ c.loop-i-test.false)
+returns c =
+    let lits = c.args.lits.now in
+    count_from_yields_List c.take_while.result _ c.count.ensures.ran (YieldsList-from_take_while _ is_literal (YieldsList-from_slice lits (cc)) c.take_while.ensures.closure c.take_while.ensures.done (λ x b q k. search (rules, tests)))
+    ∙ length-prefix_len is_literal lits ∙ run_front is_literal lits

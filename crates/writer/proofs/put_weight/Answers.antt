@@ -11,11 +11,5 @@ use Rattle.writer.proofs.put_weight.Goals.{After-put_digits-past}
 past_digits : (c : After-put_digits-past) → PutBefore (bytes " ") 0 (digits c.args.weight) c.args.out.now c.put_digits-past.new.out c.put_digits-past.result
 past_digits c = whole_before 0 (digits c.args.weight) (bytes " ") c.args.out.now (omega (arith, weight_long c.args.weight, c.requires)) c.put_digits-past.ensures
 
-pub bounds-out-past : goal.bounds-out-past
-bounds-out-past c = omega (arith, past_digits (goal.at.bounds-out-past c).After-put_digits-past)
-
-pub overflow_add-result : goal.overflow_add-result
-overflow_add-result c = omega (arith, past_digits (goal.at.overflow_add-result c).After-put_digits-past)
-
 pub returns : goal.returns
 returns c = put_then (past_digits (goal.at.returns c).After-put_digits-past).put (put_one c.put_digits-past.result 32 c.put_digits-past.new.out)
