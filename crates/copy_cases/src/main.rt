@@ -3,17 +3,16 @@
 // Where that is not what was written, `differs` is printed.
 #![tactic(auto)]
 
-ghost use Rattle.std.specs.Prelude.{◌≡◌, ◌+◌, ◌≤◌, length};
+ghost use Rattle.std.specs.Prelude.{◌≡◌, ◌≤◌, length};
 ghost use Rattle.writer.specs.Answers.{line_length};
-ghost use Rattle.formula.proofs.Runs.{CountFits};
-ghost use Rattle.pages.specs.Pages.{Lays};
+ghost use Rattle.pages.specs.Pages.{Laid};
 ghost use Rattle.copy_cases.specs.Titles.{format_name, title_line};
 
 use clause::Next;
-use dimacs::{Ends, Format, HARD, Header, LARGEST, Mode, Opening, ROOM, Refusal, Rigor, has_hard};
+use dimacs::{Ends, Format, HARD, Header, LARGEST, Mode, Opening, ROOM, Refusal, Rigor};
 use formula::Cursor;
+use lines::{Page, first};
 use std::io::Stdout;
-use writer::Written;
 
 // The longest text.
 const TEXT: usize = 65536;
@@ -21,12 +20,18 @@ const TEXT: usize = 65536;
 // The longest line: a clause with a group of 20 digits and as many literals as there is room for, each a space, a sign and ten digits.
 const PAGE: usize = 31 + 12 * ROOM;
 
-// A formula but for its clauses. Those are two lists: the weights or groups, 0 where a clause has none, and the literals, a 0 after each clause.
+// A clause by its weight or group, 0 where it has none, and its literals.
+#[derive(Clone, Copy, PartialEq, Eq)]
+struct Given<'a> {
+    extra: u64,
+    lits: &'a [i32],
+}
+
 #[derive(Clone, Copy)]
-struct Formula {
+struct Formula<'a> {
     format: Format,
-    headed: bool,
-    header: Header,
+    header: Option<Header>,
+    clauses: &'a [Given<'a>],
 }
 
 // Says so if what was read is not what was written.
@@ -36,293 +41,155 @@ fn compared(stdout: &mut Stdout, same: bool) {
     }
 }
 
-// The place past a line that was written at a place, if one was.
-fn past_line(stdout: &mut Stdout, at: usize, answer: Written) -> usize
-    requires { at + line_length answer ≤ 18446744073709551615 }
-    ensures { result ≡ at + line_length answer }
+// The length of a line, if one was written.
+fn line_length(stdout: &mut Stdout, answer: Result<usize, Refusal>) -> usize
+    ensures { result ≡ line_length answer }
 {
     match answer {
-        Written::Line(n) => at + n,
-        Written::Refused(_) => {
+        Ok(n) => n,
+        Err(_) => {
             console::print(stdout, b"unwritten\n");
-            at
+            0
         }
     }
 }
 
-// The header written, if there is one, and the place past it.
-fn put_header(stdout: &mut Stdout, text: &mut [u8], f: Formula) -> usize
+// The header written, if there is one, and its length.
+fn put_header(stdout: &mut Stdout, text: &mut [u8], format: Format, header: Option<Header>) -> usize
     ensures { result ≤ length text.old }
 {
-    if f.headed {
-        let format = f.format;
-        let header = f.header;
-        return past_line(stdout, 0, writer::write_header(format, header, text));
+    match header {
+        None => 0,
+        Some(header) => line_length(stdout, writer::write_header(format, header, text)),
     }
-    0
 }
 
 // A clause written by the call for its kind.
-fn write_clause(format: Format, extra: u64, lits: &[i32], out: &mut [u8]) -> Written
+fn write_clause(format: Format, clause: Given, out: &mut [u8]) -> Result<usize, Refusal>
     ensures { line_length result ≤ length out.old }
 {
-    if extra == HARD && has_hard(format) {
-        return writer::write_hard_clause(format, lits, out);
+    if clause.extra == HARD && format.has_hard() {
+        return writer::write_hard_clause(format, clause.lits, out);
     }
-    writer::write_clause(format, extra, lits, out)
-}
-
-// A clause written at a place, and the place past it.
-fn put_clause(
-    stdout: &mut Stdout,
-    text: &mut [u8],
-    at: usize,
-    format: Format,
-    extra: u64,
-    lits: &[i32],
-) -> usize
-    requires { at ≤ length text.old }
-    ensures { result ≤ length text.old }
-{
-    past_line(
-        stdout,
-        at,
-        write_clause(format, extra, lits, &mut text[at..]),
-    )
-}
-
-// Where the 0 stands that ends the clause at a place.
-fn zero(given: &[i32], at: usize) -> usize
-    requires { at ≤ length given.now }
-    ensures { (at ≤ result) × (result ≤ length given.now) }
-{
-    let mut i = at;
-    while i < given.len() {
-        if given[i] == 0 {
-            return i;
-        }
-        i += 1;
-    }
-    i
-}
-
-// Past that 0.
-fn past(given: &[i32], end: usize) -> usize
-    requires { end ≤ length given.now }
-    ensures { result ≤ length given.now }
-{
-    if end < given.len() {
-        return end + 1;
-    }
-    end
+    writer::write_clause(format, clause.extra, clause.lits, out)
 }
 
 // The whole formula written, and its length.
-fn written(
-    stdout: &mut Stdout,
-    text: &mut [u8],
-    f: Formula,
-    extras: &[u64],
-    given: &[i32],
-) -> usize {
-    let format = f.format;
-    let mut at = put_header(stdout, text, f);
-    let mut from: usize = 0;
-    for k in 0..extras.len() {
-        let end = zero(given, from);
-        at = put_clause(stdout, text, at, format, extras[k], &given[from..end]);
-        from = past(given, end);
+fn written(stdout: &mut Stdout, text: &mut [u8], f: Formula) -> usize {
+    let mut at = put_header(stdout, text, f.format, f.header);
+    for clause in f.clauses {
+        let answer = write_clause(f.format, *clause, &mut text[at..]);
+        at += line_length(stdout, answer);
     }
     at
 }
 
-fn same(a: &[i32], b: &[i32]) -> bool {
-    if a.len() != b.len() {
-        return false;
-    }
-    for i in 0..a.len() {
-        if a[i] != b[i] {
-            return false;
-        }
-    }
-    true
-}
-
-fn header_read(stdout: &mut Stdout, page: &mut [u8], f: Formula, read: Header) {
-    let format = f.format;
-    let h = f.header;
-    let past = lines::header_line(page, 0, read, format);
-    console::print(stdout, lines::upto(page, past));
-    compared(
-        stdout,
-        f.headed
-            && read.variables == h.variables
-            && read.clauses == h.clauses
-            && read.third == h.third,
-    );
-}
-
-fn opening_read(stdout: &mut Stdout, page: &mut [u8], f: Formula, read: Opening) {
+fn opening_read(stdout: &mut Stdout, page: &mut Page, f: Formula, read: Result<Opening, Refusal>) {
     match read {
-        Opening::Header(header, _) => header_read(stdout, page, f, header),
-        Opening::NoHeader(_) => {
-            console::print(stdout, b"header none\n");
-            compared(stdout, !f.headed);
+        Ok(Opening::Header(header, _)) => {
+            lines::header_line(page, header, f.format);
+            page.show(stdout);
+            compared(stdout, f.header == Some(header));
         }
-        Opening::Refused(_) => {}
+        Ok(Opening::NoHeader(_)) => {
+            console::print(stdout, b"header none\n");
+            compared(stdout, f.header.is_none());
+        }
+        Err(_) => {}
     }
 }
 
-// A clause that was read. It must be due, and its literals these.
+// A clause that was read, as it is given.
 fn clause_read(
     stdout: &mut Stdout,
-    page: &mut [u8],
+    page: &mut Page,
     format: Format,
-    extra: u64,
-    lits: &[i32],
-    due: bool,
-    given: &[i32],
+    read: Given,
+    due: Option<Given>,
 ) {
-    let past = lines::clause_line(page, 0, format, extra, lits);
-    console::print(stdout, lines::upto(page, past));
-    compared(stdout, due && same(lits, given));
+    lines::clause_line(page, format, read.extra, read.lits);
+    page.show(stdout);
+    compared(stdout, due == Some(read));
 }
 
-fn end_read(stdout: &mut Stdout, due: bool) {
-    console::print(stdout, b"end\n");
-    compared(stdout, due);
-}
-
-// A refusal, which is never due.
-fn refused_read(stdout: &mut Stdout, page: &mut [u8], r: Refusal) {
-    let past = lines::refused_line(page, 0, r);
-    console::print(stdout, lines::upto(page, past));
-    compared(stdout, false);
-}
-
-// An answer of the reader. It must be this clause, or the end where no clause is due.
+// An answer of the reader. It must be the clause that is due, or the end where none is.
 fn answer_read(
     stdout: &mut Stdout,
-    page: &mut [u8],
+    page: &mut Page,
     answer: Next,
     format: Format,
     lits: &[i32],
-    due: bool,
-    extra: u64,
-    given: &[i32],
-)
-    requires { CountFits (length lits.now) answer }
-{
+    due: Option<Given>,
+) {
     match answer {
-        Next::Clause { extra: read, count } => clause_read(
-            stdout,
-            page,
-            format,
-            read,
-            &lits[..count],
-            due && read == extra,
-            given,
-        ),
-        Next::Ended => end_read(stdout, !due),
-        Next::Refused { refusal, count: _ } => refused_read(stdout, page, refusal),
+        Ok(Some(clause)) => {
+            let read = Given {
+                extra: clause.extra,
+                lits: first(lits, clause.count),
+            };
+            clause_read(stdout, page, format, read, due);
+        }
+        Ok(None) => {
+            console::print(stdout, b"end\n");
+            compared(stdout, due.is_none());
+        }
+        Err(stopped) => {
+            lines::refused_line(page, stopped.refusal);
+            page.show(stdout);
+            compared(stdout, false);
+        }
     }
 }
 
 // The next answer of the reader, and the cursor past it.
 fn next_read(
     stdout: &mut Stdout,
-    page: &mut [u8],
+    page: &mut Page,
     text: &[u8],
     cursor: Cursor,
     lits: &mut [i32],
-    due: bool,
-    extra: u64,
-    given: &[i32],
+    due: Option<Given>,
 ) -> Cursor {
     let format = cursor.format;
     let step = cursor.next_clause(text, lits);
-    let answer = step.answer;
-    answer_read(stdout, page, answer, format, lits, due, extra, given);
+    answer_read(stdout, page, step.answer, format, lits, due);
     step.cursor
 }
 
-fn clauses_read(
-    stdout: &mut Stdout,
-    page: &mut [u8],
-    text: &[u8],
-    first: Cursor,
-    lits: &mut [i32],
-    extras: &[u64],
-    given: &[i32],
-) {
-    let mut cursor = first;
-    let mut from: usize = 0;
-    for k in 0..extras.len() {
-        let end = zero(given, from);
-        cursor = next_read(
-            stdout,
-            page,
-            text,
-            cursor,
-            lits,
-            true,
-            extras[k],
-            &given[from..end],
-        );
-        from = past(given, end);
-    }
-    next_read(stdout, page, text, cursor, lits, false, 0, given);
-}
-
 // The text read in a mode, with the room of a caller that lends no buffer.
-fn read_back(
-    stdout: &mut Stdout,
-    page: &mut [u8],
-    text: &[u8],
-    f: Formula,
-    mode: Mode,
-    extras: &[u64],
-    given: &[i32],
-) {
-    let format = f.format;
-    let opened = formula::open_as(text, format, mode);
-    let opening = opened.opening;
-    let cursor = opened.cursor;
-    opening_read(stdout, page, f, opening);
+fn read_back(stdout: &mut Stdout, page: &mut Page, text: &[u8], f: Formula, mode: Mode) {
+    let opened = formula::open_as(text, f.format, mode);
+    opening_read(stdout, page, f, opened.opening);
     let mut lits = [0i32; ROOM];
-    clauses_read(stdout, page, text, cursor, &mut lits, extras, given);
+    let mut cursor = opened.cursor;
+    for clause in f.clauses {
+        cursor = next_read(stdout, page, text, cursor, &mut lits, Some(*clause));
+    }
+    next_read(stdout, page, text, cursor, &mut lits, None);
 }
 
-fn name(page: &mut [u8], at: usize, format: Format) -> usize
-    ensures { Lays at (format_name format) page.old page.new result }
+fn name(page: &mut Page, format: Format)
+    ensures { Laid (format_name format) page.old page.new }
 {
     match format {
-        Format::Plain => lines::word(page, at, b"plain"),
-        Format::Weighted => lines::word(page, at, b"weighted"),
-        Format::Grouped => lines::word(page, at, b"grouped"),
-        Format::Weighted2022 => lines::word(page, at, b"weighted2022"),
+        Format::Plain => page.word(b"plain"),
+        Format::Weighted => page.word(b"weighted"),
+        Format::Grouped => page.word(b"grouped"),
+        Format::Weighted2022 => page.word(b"weighted2022"),
     }
 }
 
 // The format of a text and how many bytes it has.
-fn title_line(page: &mut [u8], at: usize, format: Format, bytes: usize) -> usize
-    ensures { Lays at (title_line format bytes) page.old page.new result }
+fn title_line(page: &mut Page, format: Format, bytes: usize)
+    ensures { Laid (title_line format bytes) page.old page.new }
 {
-    let past_name = name(page, at, format);
-    let past_number = lines::number(page, past_name, bytes as u64);
-    lines::word(page, past_number, b" bytes\n")
+    name(page, format);
+    page.number(bytes as u64);
+    page.word(b" bytes\n");
 }
 
 // The text read strictly and leniently.
-fn both(
-    stdout: &mut Stdout,
-    page: &mut [u8],
-    text: &[u8],
-    f: Formula,
-    ends: Ends,
-    extras: &[u64],
-    given: &[i32],
-) {
+fn both(stdout: &mut Stdout, page: &mut Page, text: &[u8], f: Formula, ends: Ends) {
     let strict = Mode {
         rigor: Rigor::Strict,
         ends,
@@ -332,48 +199,34 @@ fn both(
         ends,
     };
     console::print(stdout, b"strict\n");
-    read_back(stdout, page, text, f, strict, extras, given);
+    read_back(stdout, page, text, f, strict);
     console::print(stdout, b"lenient\n");
-    read_back(stdout, page, text, f, lenient, extras, given);
+    read_back(stdout, page, text, f, lenient);
 }
 
-fn in_modes(
-    stdout: &mut Stdout,
-    page: &mut [u8],
-    text: &[u8],
-    f: Formula,
-    extras: &[u64],
-    given: &[i32],
-) {
-    let format = f.format;
-    let past = title_line(page, 0, format, text.len());
-    console::print(stdout, lines::upto(page, past));
+fn copied(stdout: &mut Stdout, page: &mut Page, f: Formula) {
+    let mut bytes = [0u8; TEXT];
+    let length = written(stdout, &mut bytes, f);
+    let text = first(&bytes, length);
+    title_line(page, f.format, length);
+    page.show(stdout);
     console::print(stdout, text);
-    both(stdout, page, text, f, Ends::LineFeed, extras, given);
+    both(stdout, page, text, f, Ends::LineFeed);
     console::print(stdout, b"cr\n");
-    both(stdout, page, text, f, Ends::AlsoReturn, extras, given);
+    both(stdout, page, text, f, Ends::AlsoReturn);
 }
 
-fn copied(stdout: &mut Stdout, page: &mut [u8; PAGE], f: Formula, extras: &[u64], given: &[i32]) {
-    let mut text = [0u8; TEXT];
-    let n = written(stdout, &mut text, f, extras, given);
-    in_modes(stdout, page, lines::upto(&text, n), f, extras, given);
+fn given(extra: u64, lits: &[i32]) -> Given<'_> {
+    Given { extra, lits }
 }
 
-fn bare(format: Format) -> Formula {
-    let header = Header {
-        variables: 0,
-        clauses: 0,
-        third: 0,
-    };
-    Formula {
-        format,
-        headed: false,
-        header,
-    }
-}
-
-fn headed(format: Format, variables: u64, clauses: u64, third: u64) -> Formula {
+fn headed<'a>(
+    format: Format,
+    variables: u64,
+    clauses: u64,
+    third: u64,
+    given: &'a [Given<'a>],
+) -> Formula<'a> {
     let header = Header {
         variables,
         clauses,
@@ -381,150 +234,140 @@ fn headed(format: Format, variables: u64, clauses: u64, third: u64) -> Formula {
     };
     Formula {
         format,
-        headed: true,
-        header,
+        header: Some(header),
+        clauses: given,
     }
 }
 
-fn plain(stdout: &mut Stdout, page: &mut [u8; PAGE]) {
-    copied(
-        stdout,
-        page,
-        headed(Format::Plain, 3, 2, 0),
-        &[0, 0],
-        &[1, -3, 0, -2, 0],
-    );
-    copied(
-        stdout,
-        page,
-        headed(Format::Plain, 2147483647, 0, 0),
-        &[0, 0],
-        &[2147483647, -2147483647, 0, 0],
-    );
-    copied(
-        stdout,
-        page,
-        headed(Format::Plain, 0, 1, 0),
-        &[0],
-        &[9, -10, 99, -100, 0],
-    );
-    copied(
-        stdout,
-        page,
-        bare(Format::Plain),
-        &[0, 0],
-        &[0, -2147483647, 2147483647, 0],
-    );
+fn bare<'a>(format: Format, given: &'a [Given<'a>]) -> Formula<'a> {
+    Formula {
+        format,
+        header: None,
+        clauses: given,
+    }
 }
 
-fn weighted(stdout: &mut Stdout, page: &mut [u8; PAGE]) {
+fn plain(stdout: &mut Stdout, page: &mut Page) {
+    let same_as_counts = [given(0, &[1, -3]), given(0, &[-2])];
     copied(
         stdout,
         page,
-        headed(Format::Weighted, 100, 5, LARGEST),
-        &[0, 9, 10, 99, 100],
-        &[1, 0, -9, 0, 10, -99, 0, 100, 0, 0],
+        headed(Format::Plain, 3, 2, 0, &same_as_counts),
     );
+    let largest = [given(0, &[2147483647, -2147483647]), given(0, &[])];
     copied(
         stdout,
         page,
-        headed(Format::Weighted, 0, 0, 0),
-        &[2147483647],
-        &[2147483647, 0],
+        headed(Format::Plain, 2147483647, 0, 0, &largest),
     );
-    copied(
-        stdout,
-        page,
-        bare(Format::Weighted),
-        &[9223372036854775808, LARGEST, 0],
-        &[-2147483647, 0, 0, 1, 0],
-    );
+    let digits = [given(0, &[9, -10, 99, -100])];
+    copied(stdout, page, headed(Format::Plain, 0, 1, 0, &digits));
+    let empty_first = [given(0, &[]), given(0, &[-2147483647, 2147483647])];
+    copied(stdout, page, bare(Format::Plain, &empty_first));
 }
 
-fn grouped(stdout: &mut Stdout, page: &mut [u8; PAGE]) {
+fn weighted(stdout: &mut Stdout, page: &mut Page) {
+    let digits = [
+        given(0, &[1]),
+        given(9, &[-9]),
+        given(10, &[10, -99]),
+        given(99, &[100]),
+        given(100, &[]),
+    ];
     copied(
         stdout,
         page,
-        headed(Format::Grouped, 9, 3, 10),
-        &[0, 9, 10],
-        &[1, -9, 0, 0, 2, 0],
+        headed(Format::Weighted, 100, 5, LARGEST, &digits),
     );
-    copied(
-        stdout,
-        page,
-        headed(Format::Grouped, 0, 0, LARGEST),
-        &[LARGEST, 9223372036854775808],
-        &[-2147483647, 0, 0],
-    );
-    copied(
-        stdout,
-        page,
-        bare(Format::Grouped),
-        &[LARGEST, 99, 100],
-        &[0, 2147483647, 0, -1, 0],
-    );
+    let largest = [given(2147483647, &[2147483647])];
+    copied(stdout, page, headed(Format::Weighted, 0, 0, 0, &largest));
+    let weights = [
+        given(9223372036854775808, &[-2147483647]),
+        given(LARGEST, &[]),
+        given(0, &[1]),
+    ];
+    copied(stdout, page, bare(Format::Weighted, &weights));
 }
 
-fn weighted_2022(stdout: &mut Stdout, page: &mut [u8; PAGE]) {
+fn grouped(stdout: &mut Stdout, page: &mut Page) {
+    let digits = [given(0, &[1, -9]), given(9, &[]), given(10, &[2])];
+    copied(stdout, page, headed(Format::Grouped, 9, 3, 10, &digits));
+    let largest = [
+        given(LARGEST, &[-2147483647]),
+        given(9223372036854775808, &[]),
+    ];
     copied(
         stdout,
         page,
-        bare(Format::Weighted2022),
-        &[HARD, 9, HARD, 100, LARGEST],
-        &[1, -3, 0, 2147483647, -2147483647, 0, 0, 0, -2, 0],
+        headed(Format::Grouped, 0, 0, LARGEST, &largest),
     );
+    let groups = [
+        given(LARGEST, &[]),
+        given(99, &[2147483647]),
+        given(100, &[-1]),
+    ];
+    copied(stdout, page, bare(Format::Grouped, &groups));
 }
 
-// A formula of no clauses.
-fn no_clauses(stdout: &mut Stdout, page: &mut [u8; PAGE], f: Formula) {
-    let none = [0u64; 0];
-    let given = [0i32; 0];
-    copied(stdout, page, f, &none, &given);
+fn weighted_2022(stdout: &mut Stdout, page: &mut Page) {
+    let some_hard = [
+        given(HARD, &[1, -3]),
+        given(9, &[2147483647, -2147483647]),
+        given(HARD, &[]),
+        given(100, &[]),
+        given(LARGEST, &[-2]),
+    ];
+    copied(stdout, page, bare(Format::Weighted2022, &some_hard));
 }
 
-fn empty(stdout: &mut Stdout, page: &mut [u8; PAGE], format: Format) {
-    no_clauses(stdout, page, bare(format));
-    no_clauses(stdout, page, headed(format, 0, 0, 0));
+// Formulas of no clauses.
+fn empty(stdout: &mut Stdout, page: &mut Page, format: Format) {
+    copied(stdout, page, bare(format, &[]));
+    copied(stdout, page, headed(format, 0, 0, 0, &[]));
 }
 
 // A clause that takes all the room.
-fn long(stdout: &mut Stdout, page: &mut [u8; PAGE], f: Formula, extra: u64) {
-    let mut given = [0i32; ROOM + 1];
+fn longest() -> [i32; ROOM] {
+    let mut lits = [0i32; ROOM];
     for i in 0..ROOM {
-        given[i] = (i + 1) as i32;
+        lits[i] = (i + 1) as i32;
     }
-    given[ROOM - 1] = -1024;
-    copied(stdout, page, f, &[extra], &given);
+    lits[ROOM - 1] = -1024;
+    lits
 }
 
-fn copies(stdout: &mut Stdout, page: &mut [u8; PAGE]) {
+fn long(stdout: &mut Stdout, page: &mut Page, format: Format, third: u64) {
+    let clauses = [given(third, &longest())];
+    copied(stdout, page, headed(format, 1024, 1, third, &clauses));
+}
+
+fn long_bare(stdout: &mut Stdout, page: &mut Page, format: Format, extra: u64) {
+    let clauses = [given(extra, &longest())];
+    copied(stdout, page, bare(format, &clauses));
+}
+
+fn copies(stdout: &mut Stdout, page: &mut Page) {
     plain(stdout, page);
     weighted(stdout, page);
     grouped(stdout, page);
     empty(stdout, page, Format::Plain);
     empty(stdout, page, Format::Weighted);
     empty(stdout, page, Format::Grouped);
-    long(stdout, page, headed(Format::Plain, 1024, 1, 0), 0);
-    long(
-        stdout,
-        page,
-        headed(Format::Weighted, 1024, 1, LARGEST),
-        LARGEST,
-    );
-    long(
-        stdout,
-        page,
-        headed(Format::Grouped, 1024, 1, LARGEST),
-        LARGEST,
-    );
+    long(stdout, page, Format::Plain, 0);
+    long(stdout, page, Format::Weighted, LARGEST);
+    long(stdout, page, Format::Grouped, LARGEST);
     weighted_2022(stdout, page);
-    no_clauses(stdout, page, bare(Format::Weighted2022));
-    long(stdout, page, bare(Format::Weighted2022), HARD);
-    long(stdout, page, bare(Format::Weighted2022), LARGEST);
+    copied(stdout, page, bare(Format::Weighted2022, &[]));
+    long_bare(stdout, page, Format::Weighted2022, HARD);
+    long_bare(stdout, page, Format::Weighted2022, LARGEST);
 }
 
 fn main(rt: HostRuntime) {
     let mut stdout = rt.stdout();
-    let mut page = [0u8; PAGE];
+    let mut bytes = [0u8; PAGE];
+    let mut page = Page {
+        bytes: &mut bytes,
+        at: 0,
+    };
     copies(&mut stdout, &mut page);
 }
