@@ -27,6 +27,12 @@ struct Given<'a> {
     lits: &'a [i32],
 }
 
+impl<'a> Given<'a> {
+    fn new(extra: u64, lits: &'a [i32]) -> Given<'a> {
+        Given { extra, lits }
+    }
+}
+
 #[derive(Clone, Copy)]
 struct Formula<'a> {
     format: Format,
@@ -216,10 +222,6 @@ fn copied(stdout: &mut Stdout, page: &mut Page, f: Formula) {
     both(stdout, page, text, f, Ends::AlsoReturn);
 }
 
-fn given(extra: u64, lits: &[i32]) -> Given<'_> {
-    Given { extra, lits }
-}
-
 fn headed<'a>(
     format: Format,
     variables: u64,
@@ -248,53 +250,63 @@ fn bare<'a>(format: Format, given: &'a [Given<'a>]) -> Formula<'a> {
 }
 
 fn plain(stdout: &mut Stdout, page: &mut Page) {
-    let same_as_counts = [given(0, &[1, -3]), given(0, &[-2])];
+    let same_as_counts = [Given::new(0, &[1, -3]), Given::new(0, &[-2])];
     copied(
         stdout,
         page,
         headed(Format::Plain, 3, 2, 0, &same_as_counts),
     );
-    let largest = [given(0, &[2147483647, -2147483647]), given(0, &[])];
+    let largest = [
+        Given::new(0, &[2147483647, -2147483647]),
+        Given::new(0, &[]),
+    ];
     copied(
         stdout,
         page,
         headed(Format::Plain, 2147483647, 0, 0, &largest),
     );
-    let digits = [given(0, &[9, -10, 99, -100])];
+    let digits = [Given::new(0, &[9, -10, 99, -100])];
     copied(stdout, page, headed(Format::Plain, 0, 1, 0, &digits));
-    let empty_first = [given(0, &[]), given(0, &[-2147483647, 2147483647])];
+    let empty_first = [
+        Given::new(0, &[]),
+        Given::new(0, &[-2147483647, 2147483647]),
+    ];
     copied(stdout, page, bare(Format::Plain, &empty_first));
 }
 
 fn weighted(stdout: &mut Stdout, page: &mut Page) {
     let digits = [
-        given(0, &[1]),
-        given(9, &[-9]),
-        given(10, &[10, -99]),
-        given(99, &[100]),
-        given(100, &[]),
+        Given::new(0, &[1]),
+        Given::new(9, &[-9]),
+        Given::new(10, &[10, -99]),
+        Given::new(99, &[100]),
+        Given::new(100, &[]),
     ];
     copied(
         stdout,
         page,
         headed(Format::Weighted, 100, 5, LARGEST, &digits),
     );
-    let largest = [given(2147483647, &[2147483647])];
+    let largest = [Given::new(2147483647, &[2147483647])];
     copied(stdout, page, headed(Format::Weighted, 0, 0, 0, &largest));
     let weights = [
-        given(9223372036854775808, &[-2147483647]),
-        given(LARGEST, &[]),
-        given(0, &[1]),
+        Given::new(9223372036854775808, &[-2147483647]),
+        Given::new(LARGEST, &[]),
+        Given::new(0, &[1]),
     ];
     copied(stdout, page, bare(Format::Weighted, &weights));
 }
 
 fn grouped(stdout: &mut Stdout, page: &mut Page) {
-    let digits = [given(0, &[1, -9]), given(9, &[]), given(10, &[2])];
+    let digits = [
+        Given::new(0, &[1, -9]),
+        Given::new(9, &[]),
+        Given::new(10, &[2]),
+    ];
     copied(stdout, page, headed(Format::Grouped, 9, 3, 10, &digits));
     let largest = [
-        given(LARGEST, &[-2147483647]),
-        given(9223372036854775808, &[]),
+        Given::new(LARGEST, &[-2147483647]),
+        Given::new(9223372036854775808, &[]),
     ];
     copied(
         stdout,
@@ -302,20 +314,20 @@ fn grouped(stdout: &mut Stdout, page: &mut Page) {
         headed(Format::Grouped, 0, 0, LARGEST, &largest),
     );
     let groups = [
-        given(LARGEST, &[]),
-        given(99, &[2147483647]),
-        given(100, &[-1]),
+        Given::new(LARGEST, &[]),
+        Given::new(99, &[2147483647]),
+        Given::new(100, &[-1]),
     ];
     copied(stdout, page, bare(Format::Grouped, &groups));
 }
 
 fn weighted_2022(stdout: &mut Stdout, page: &mut Page) {
     let some_hard = [
-        given(HARD, &[1, -3]),
-        given(9, &[2147483647, -2147483647]),
-        given(HARD, &[]),
-        given(100, &[]),
-        given(LARGEST, &[-2]),
+        Given::new(HARD, &[1, -3]),
+        Given::new(9, &[2147483647, -2147483647]),
+        Given::new(HARD, &[]),
+        Given::new(100, &[]),
+        Given::new(LARGEST, &[-2]),
     ];
     copied(stdout, page, bare(Format::Weighted2022, &some_hard));
 }
@@ -326,7 +338,7 @@ fn empty(stdout: &mut Stdout, page: &mut Page, format: Format) {
     copied(stdout, page, headed(format, 0, 0, 0, &[]));
 }
 
-// A clause that takes all the room.
+// Literals that take all the room.
 fn longest() -> [i32; ROOM] {
     let mut lits = [0i32; ROOM];
     for i in 0..ROOM {
@@ -337,12 +349,14 @@ fn longest() -> [i32; ROOM] {
 }
 
 fn long(stdout: &mut Stdout, page: &mut Page, format: Format, third: u64) {
-    let clauses = [given(third, &longest())];
+    let lits = longest();
+    let clauses = [Given::new(third, &lits)];
     copied(stdout, page, headed(format, 1024, 1, third, &clauses));
 }
 
 fn long_bare(stdout: &mut Stdout, page: &mut Page, format: Format, extra: u64) {
-    let clauses = [given(extra, &longest())];
+    let lits = longest();
+    let clauses = [Given::new(extra, &lits)];
     copied(stdout, page, bare(format, &clauses));
 }
 
