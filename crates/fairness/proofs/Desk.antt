@@ -2,17 +2,18 @@
 use Prim.Native.Nat.{ℕ, zero, suc, ◌+◌, ◌-◌, ◌%◌, ◌<◌, min}
 use mathlib.Core.Bool.{true, false, cond}
 use mathlib.Core.List.{List, [], ◌∷◌}
-use mathlib.Core.Option.{Option, none, some}
+use Rattle.std.specs.Prelude.{Option, None, Some, option_map}
 use mathlib.Core.Path.{◌≡◌, refl, sym, ap, ◌∙◌}
 use native.Mathlib.Omega.{arith}
 use borrow.Author.Tests.{leb-true, leb-false, ltb-true, ltb-false, lt-leb, lt-ltb, le-ltb}
 use lib.ListN.{length, get_or, set}
 use lib.Dec.{leb, ltb, eqb}
 use lib.IntN.{ℤ}
-use Rattle.dimacs.specs.Names.{Reason, number_of, kind_of, largest, own_room, places}
+use Rattle.dimacs.specs.Names.{number_of, kind_of, largest, own_room, places}
+use Rattle.dimacs.specs.declared.Reason.{Reason}
 use Rattle.dimacs.specs.Buffers.{laid}
 use Rattle.dimacs.specs.declared.Kind.{Kind}
-use Rattle.dimacs.specs.declared.Kind.TheVariants.{Unknown, Clauses, Log}
+use Rattle.dimacs.specs.declared.Kind.TheVariants.{Clauses, Log}
 use Rattle.dimacs.proofs.Tests.{tested}
 use Rattle.formula.specs.declared.Cursor.{Cursor}
 use Rattle.rota.specs.Rota as rota
@@ -22,10 +23,8 @@ use Rattle.service.specs.declared.Stage.TheVariants as stage
 use Rattle.ring.specs.declared.Job.{Job}
 use Rattle.ring.specs.declared.Tray.{Tray}
 use Rattle.ring.specs.Ring.{ring, job_of, no_job, how_many, waiting, place_behind, joined, goes_on, passed, ahead, taken_out}
-use Rattle.tray.specs.declared.PutDone.{PutDone}
-use Rattle.service.specs.declared.Goes.{Goes}
-use Rattle.service.specs.declared.Goes.TheVariants.{On, Over}
-use Rattle.tray.specs.declared.TurnDone.{TurnDone}
+use Rattle.tray.specs.declared.Done as tray_done
+use Rattle.tray.specs.declared.Told.{Told}
 use Rattle.tray.specs.Calls as calls
 use Rattle.service.specs.Serving.{within, Reply, said_of, literals_in, Serving}
 use Rattle.tray.specs.Calls.{Put, ticket_given, entered, serve, turned, turn_of, buffer_of, withdraw_of}
@@ -38,15 +37,14 @@ use Rattle.fairness.proofs.Rings.{length-ring, ring-mod, ring_more, removed, tak
 abbrev pub view : Tray → Round Job
 view t = round (waiting t) t.given
 
-abbrev pub entry_by : Put → Kind → Entry Job
-entry_by p (Clauses f m) =
-    cond (within p.start p.length p.lent) (good (λ k. job_of k p.start p.length (stage.Fresh f m))) (bad (number_of Reason.part_outside_area))
-entry_by p (Log m) = bad (number_of Reason.format_or_mode_unknown)
-entry_by p Unknown = bad (number_of Reason.format_or_mode_unknown)
+abbrev pub entry_by : Put → Option Kind → Entry Job
+entry_by p (Some (Clauses f m)) =
+    cond (within p.start p.length p.lent) (good (λ k. job_of k p.start p.length (stage.Fresh f m))) (bad (number_of Reason.PartOutsideArea))
+entry_by p (Some (Log m)) = bad (number_of Reason.FormatOrModeUnknown)
+entry_by p None = bad (number_of Reason.FormatOrModeUnknown)
 
-abbrev pub goes_by : Job → Goes → Option Job
-goes_by j (On c) = some (goes_on j c)
-goes_by j Over = none
+abbrev pub goes_by : Job → Option Cursor → Option Job
+goes_by j = option_map (goes_on j)
 
 abbrev pub served_by : Job → Serving → rota.Served Job Reply
 served_by j v = record { said = v.said; goes = goes_by j v.goes }
@@ -79,12 +77,12 @@ module _ (t : Tray) (n : ℕ) (f : how_many t ≡ suc n) (j : Job) where
   abbrev rest : List Job
   rest = ring t.jobs (t.head + 1) n
 
-  over_view : view (passed t j Over) ≡ round rest t.given
+  over_view : view (passed t j None) ≡ round rest t.given
   over_view =
       let m : min (how_many t - 1) places ≡ n = omega arith in
       rw m (ap (λ w. round w t.given) (ring-mod t.jobs (place_behind t 1) (t.head + 1) n (omega arith)))
 
-  on_view : (c : Cursor) → length t.jobs ≡ places → view (passed t j (On c)) ≡ round (to_back rest (goes_on j c)) t.given
+  on_view : (c : Cursor) → length t.jobs ≡ places → view (passed t j (Some c)) ≡ round (to_back rest (goes_on j c)) t.given
   on_view c l =
       let m : min (how_many t) places ≡ suc n = omega arith in
       rw m
@@ -100,7 +98,7 @@ module _ (t : Tray) (l : length t.jobs ≡ places) where
       (λ e. let h = leb-true places t.count e in let f : how_many t ≡ places = omega arith in rw (n, f, e))
       (λ e. let h = leb-false places t.count e in let f : how_many t ≡ t.count = omega arith in rw (n, f, e))
 
-  abbrev put_viewed : PutDone → Done (Round Job) Reply
+  abbrev put_viewed : tray_done.Done ℕ → Done (Round Job) Reply
   put_viewed d = does (put_says d.answer) (view d.tray)
 
   entered_is : (start size : ℕ) (s : Stage) → put_viewed (entered t start size s) ≡ rota.put_by desk (view t) (good (λ k. job_of k start size s))
@@ -111,20 +109,20 @@ module _ (t : Tray) (l : length t.jobs ≡ places) where
       (λ a. tested (leb largest t.given) (λ b. rw (full_same, a, b))
       (λ b. rw (full_same, a, b) (ap (does (ticketed k)) (joined_view (ticket_given t k) (job_of k start size s) l (leb-false places t.count a)))))
 
-  put_is : (p : Put) (x : Kind) → put_viewed (calls.put_as t p x) ≡ rota.put_by desk (view t) (entry_by p x)
-  put_is p (Clauses f m) = tested (within p.start p.length p.lent) (λ w. rw w (entered_is p.start p.length (stage.Fresh f m))) (λ w. rw w)
-  put_is p (Log m) = refl
-  put_is p Unknown = refl
+  put_is : (p : Put) (x : Option Kind) → put_viewed (calls.put_as t p x) ≡ rota.put_by desk (view t) (entry_by p x)
+  put_is p (Some (Clauses f m)) = tested (within p.start p.length p.lent) (λ w. rw w (entered_is p.start p.length (stage.Fresh f m))) (λ w. rw w)
+  put_is p (Some (Log m)) = refl
+  put_is p None = refl
 
 module _ (t : Tray) (l : length t.jobs ≡ places) where
-  abbrev turn_viewed : List ℤ → TurnDone → Done (Round Job) Reply
+  abbrev turn_viewed : List ℤ → tray_done.Done Told → Done (Round Job) Reply
   turn_viewed new d = does (turn_says new d.answer) (view d.tray)
 
-  turned_is : (n : ℕ) → how_many t ≡ suc n → (j : Job) (a : Reply) (g : Goes) (old : List ℤ)
+  turned_is : (n : ℕ) → how_many t ≡ suc n → (j : Job) (a : Reply) (g : Option Cursor) (old : List ℤ)
       → turn_viewed (laid (literals_in a) old) (turned t j (record { said = said_of a; goes = g }))
       ≡ rota.went desk t.given (ring t.jobs (t.head + 1) n) j.ticket a (goes_by j g)
-  turned_is n f j a Over old = rw (reply_in_buffer a old) (ap (does (told j.ticket a true)) (over_view t n f j))
-  turned_is n f j a (On c) old = rw (reply_in_buffer a old) (ap (does (told j.ticket a false)) (on_view t n f j c l))
+  turned_is n f j a None old = rw (reply_in_buffer a old) (ap (does (told j.ticket a true)) (over_view t n f j))
+  turned_is n f j a (Some c) old = rw (reply_in_buffer a old) (ap (does (told j.ticket a false)) (on_view t n f j c l))
 
   turn_is : (e : Lent) → turn_viewed (buffer_of t e.area e.buffer) (turn_of t e.area (length e.buffer)) ≡ rota.turn_by desk e t.given (waiting t)
   unfolding turn_of buffer_of

@@ -2,11 +2,11 @@
 use Prim.Native.Nat.{ℕ}
 use mathlib.Core.List.{List, [], ◌∷◌}
 use mathlib.Core.Path.{◌≡◌, refl, ap, sym, ◌∙◌, subst}
+use Rattle.std.specs.Prelude.{Ok}
 use Rattle.rota.specs.Rota as rota
 use Rattle.rota.specs.Rota.{Done, does, answers, ticketed, heard}
 use Rattle.ring.specs.declared.Tray.{Tray}
 use Rattle.ring.specs.Ring.{empty_tray}
-use Rattle.tray.specs.declared.PutAnswer.TheVariants as putting
 use Rattle.service.specs.Serving.{Reply}
 use Rattle.tray.specs.Calls.{Put}
 use Rattle.tray.specs.Answers.{NumberAlone}
@@ -76,7 +76,7 @@ lent_withdrawn before k h c = lent_done_with before k h (tray_withdrawn (called 
 -- After a put that was given a ticket, the calls are those since the same put by value.
 module _ {before : List Event} {p : Put} {k : ℕ} {after : List Event} (w : AfterPut before p k after) where
   lent_put : does (ticketed k) w.tray ≡ then_put (called before) p
-  lent_put = lent_did (finally empty_tray before) (put p (putting.Ticket k) w.tray) w.given ∙ ap (λ (t : Tray). did t (rota.put p)) (lent_finally before empty_tray w.first)
+  lent_put = lent_did (finally empty_tray before) (put p (Ok k) w.tray) w.given ∙ ap (λ (t : Tray). did t (rota.put p)) (lent_finally before empty_tray w.first)
 
   lent_given : (then_put (called before) p).answer ≡ ticketed k
   lent_given = ap (λ (d : Done Tray Reply). d.answer) (sym lent_put)

@@ -11,7 +11,7 @@ use lib.IntN.{ℤ}
 use Rattle.dimacs.specs.Names.{kind_of, largest, own_room, places}
 use Rattle.dimacs.specs.declared.Format.{Format}
 use Rattle.dimacs.specs.declared.Kind.{Kind}
-use Rattle.dimacs.specs.declared.Kind.TheVariants.{Unknown, Clauses, Log}
+use Rattle.dimacs.specs.declared.Kind.TheVariants.{Clauses, Log}
 use Rattle.dimacs.specs.declared.Mode.{Mode}
 use Rattle.dimacs.proofs.Tests.{tested}
 use Rattle.rota.specs.Rota as rota
@@ -23,17 +23,16 @@ use Rattle.rota.proofs.Gone.{told_done_with, withdrawn_done_with}
 use Rattle.rota.proofs.Waiting.{Stands}
 use Rattle.rota.proofs.Fair.{put_stands, fair}
 use Rattle.rota.proofs.Alone.{alone}
+use Rattle.std.specs.Prelude.{Option, None, Some}
+use Rattle.formula.specs.declared.Cursor.{Cursor}
 use Rattle.service.specs.declared.Stage.TheVariants as stage
 use Rattle.ring.specs.declared.Job.{Job}
 use Rattle.ring.specs.declared.Tray.{Tray}
-use Rattle.ring.specs.declared.Front.{Front}
-use Rattle.ring.specs.declared.Front.TheVariants as front
 use Rattle.ring.specs.Ring.{job_of, empty_tray, how_many, waiting, place_behind, front_of, joined, goes_on, passed, ahead, taken_out}
-use Rattle.service.specs.declared.Goes.{Goes}
-use Rattle.service.specs.declared.Goes.TheVariants.{On, Over}
 use Rattle.service.specs.Serving.{within, Reply}
 use Rattle.tray.specs.Calls.{Put, ticket_given, entered, put_as, serve, turn_for, turn_of, buffer_for, buffer_of, Turns, withdraw_of}
-use Rattle.tray.specs.declared.TurnDone.{TurnDone}
+use Rattle.tray.specs.declared.Done as tray_done
+use Rattle.tray.specs.declared.Told.{Told}
 use Rattle.tray.specs.Answers.{put_says, turn_says, withdraw_says}
 use Rattle.tray.proofs.Tells.{number_alone}
 use Rattle.fairness.specs.Promises.{Lent, Calls, did, BufferKept, Refusals, answered, left, then_put, since, Holds, said_alone, Account, Tickets, EnoughPlaces, Bound, Content, Demand, DoneWith, Silence, Withdrawn}
@@ -42,33 +41,33 @@ use Rattle.fairness.proofs.Desk.{view, desk, call_is}
 use Rattle.fairness.proofs.Reader.{turns_left_of, falls, PartOf, lasts, entry_begins, lawful, solo, alike, whole}
 
 -- Whatever keeps the contract of `turn` is the turn of which the promises speak.
-pub turn_did : {t : Tray} {area : List ℕ} {old new : List ℤ} {r : TurnDone} → Turns t area old new r
+pub turn_did : {t : Tray} {area : List ℕ} {old new : List ℤ} {r : tray_done.Done Told} → Turns t area old new r
     → does (turn_says new r.answer) r.tray ≡ did t (turn (record { area = area; buffer = old }))
 turn_did h = rw (h.done, h.buffer)
 
-put_refused : (t : Tray) (p : Put) (x : Kind) (n : ℕ) → put_says (put_as t p x).answer ≡ refused n → (put_as t p x).tray ≡ t
+put_refused : (t : Tray) (p : Put) (x : Option Kind) (n : ℕ) → put_says (put_as t p x).answer ≡ refused n → (put_as t p x).tray ≡ t
 unfolding entered
-put_refused t p Unknown n h = refl
-put_refused t p (Log m) n h = refl
-put_refused t p (Clauses f m) n h =
+put_refused t p None n h = refl
+put_refused t p (Some (Log m)) n h = refl
+put_refused t p (Some (Clauses f m)) n h =
     tested (within p.start p.length p.lent)
     (λ w. tested (leb places t.count) (λ a. rw (w, a)) (λ a. tested (leb largest t.given) (λ b. rw (w, a, b)) (λ b. given (rw (w, a, b) at h))))
     (λ w. rw w)
   where
     given : {X : Type 0} {k : ℕ} → ◌≡◌ {A = Answer Reply} (ticketed k) (refused n) → X
-    given e = let z : ◌≡◌ {A = ℕ} 0 1 = cc in absurd (omega arith)
+    given e = absurd (cc)
 
 turn_refused : (t : Tray) (e : Lent) (n : ℕ) → (did t (turn e)).answer ≡ refused n → ((did t (turn e)).after ≡ t) × BufferKept t (turn e)
 unfolding turn_of buffer_of
 turn_refused t e n h = go (front_of (waiting t)) h
   where
     given : {X : Type 0} {k : ℕ} {a : Reply} {b : Bool} → ◌≡◌ {A = Answer Reply} (told k a b) (refused n) → X
-    given e = let z : ◌≡◌ {A = ℕ} 0 1 = cc in absurd (omega arith)
+    given e = absurd (cc)
 
-    go : (x : Front) → let d = turn_for t e.area (length e.buffer) x in let new = buffer_for e.area e.buffer x in
+    go : (x : Option Job) → let d = turn_for t e.area (length e.buffer) x in let new = buffer_for e.area e.buffer x in
         turn_says new d.answer ≡ refused n → (d.tray ≡ t) × (new ≡ e.buffer)
-    go front.Nothing k = (refl, refl)
-    go (front.Waits j) k =
+    go None k = (refl, refl)
+    go (Some j) k =
         tested (ltb (length e.buffer) own_room) (λ b. rw b (refl, refl))
         (λ b. given (rw b at k))
 
@@ -77,7 +76,7 @@ unfolding withdraw_of taken_out
 withdraw_refused t k n h = tested (ltb (ahead k (waiting t)) (how_many t)) (λ a. gone (rw a at h)) (λ a. rw a)
   where
     gone : {X : Type 0} → ◌≡◌ {A = Answer Reply} (withdrawn k) (refused n) → X
-    gone e = let z : ◌≡◌ {A = ℕ} 0 1 = cc in absurd (omega arith)
+    gone e = absurd (cc)
 
 pub tray_refusals : Refusals
 tray_refusals t (put p) n h = (number_alone (did t (put p)).answer n h, put_refused t p (kind_of p.format p.mode) n h, tt)
@@ -98,15 +97,15 @@ fits_joined t j =
     tested (leb places t.count) (λ a. rw a fits_same)
     (λ a. rw a (record { size = length-set t.jobs (place_behind t t.count) j; count = λ h. omega (arith, leb-false places t.count a) }))
 
-fits_passed : (t : Tray) (j : Job) (g : Goes) → Fits t (passed t j g)
-fits_passed t j (On c) = record { size = length-set t.jobs (place_behind t (how_many t)) (goes_on j c); count = λ h. omega arith }
-fits_passed t j Over = record { size = refl; count = λ h. omega arith }
+fits_passed : (t : Tray) (j : Job) (g : Option Cursor) → Fits t (passed t j g)
+fits_passed t j (Some c) = record { size = length-set t.jobs (place_behind t (how_many t)) (goes_on j c); count = λ h. omega arith }
+fits_passed t j None = record { size = refl; count = λ h. omega arith }
 
-fits_put : (t : Tray) (p : Put) (x : Kind) → Fits t (put_as t p x).tray
+fits_put : (t : Tray) (p : Put) (x : Option Kind) → Fits t (put_as t p x).tray
 unfolding entered
-fits_put t p Unknown = fits_same
-fits_put t p (Log m) = fits_same
-fits_put t p (Clauses f m) =
+fits_put t p None = fits_same
+fits_put t p (Some (Log m)) = fits_same
+fits_put t p (Some (Clauses f m)) =
     tested (within p.start p.length p.lent)
     (λ w. tested (leb places t.count) (λ a. rw (w, a) fits_same)
     (λ a. tested (leb largest t.given) (λ b. rw (w, a, b) fits_same)
@@ -114,9 +113,9 @@ fits_put t p (Clauses f m) =
     rw (w, a, b) (record { size = h.size; count = h.count }))))
     (λ w. rw w fits_same)
 
-fits_turn : (t : Tray) (e : Lent) (x : Front) → Fits t (turn_for t e.area (length e.buffer) x).tray
-fits_turn t e front.Nothing = fits_same
-fits_turn t e (front.Waits j) =
+fits_turn : (t : Tray) (e : Lent) (x : Option Job) → Fits t (turn_for t e.area (length e.buffer) x).tray
+fits_turn t e None = fits_same
+fits_turn t e (Some j) =
     tested (ltb (length e.buffer) own_room) (λ b. rw b fits_same)
     (λ b. rw b (fits_passed t j (serve e.area j).goes))
 
@@ -223,7 +222,7 @@ module _ (before : Calls) (p : Put) where
   record Waits (k : ℕ) : Type 0 where
     format : Format
     mode : Mode
-    kind_known : kind_of p.format p.mode ≡ Clauses format mode
+    kind_known : kind_of p.format p.mode ≡ Some (Clauses format mode)
     ahead_of : ℕ
     below : ahead_of < places
     stands : Stands (job_of k p.start p.length (stage.Fresh format mode)) ahead_of then.after.waiting

@@ -2,7 +2,7 @@
 use Prim.Native.Nat.{ℕ, zero, suc, ◌+◌, ◌-◌, ◌/◌, ◌<◌}
 use mathlib.Core.Bool.{true}
 use mathlib.Core.List.{List, ◌∷◌, map}
-use mathlib.Core.Option.{Option, none, some}
+use Rattle.std.specs.Prelude.{Option, None, Some, Result, Ok, Err}
 use mathlib.Core.Path.{◌≡◌, refl, ap, sym, subst}
 use native.Mathlib.Omega.{arith}
 use borrow.Author.Tests.{le-leb, leb-true}
@@ -14,20 +14,19 @@ use Rattle.dimacs.specs.Clauses as def
 use Rattle.dimacs.specs.Texts as texts
 use Rattle.dimacs.specs.declared.Format.{Format}
 use Rattle.dimacs.specs.declared.Kind.{Kind}
-use Rattle.dimacs.specs.declared.Kind.TheVariants.{Unknown, Clauses, Log}
+use Rattle.dimacs.specs.declared.Kind.TheVariants.{Clauses, Log}
 use Rattle.dimacs.specs.declared.Mode.{Mode}
 use Rattle.dimacs.specs.declared.Ends.{Ends}
 use Rattle.dimacs.specs.declared.Limits.{Limits}
 use Rattle.dimacs.specs.declared.Progress.{Progress}
 use Rattle.dimacs.specs.declared.Opening.{Opening}
 use Rattle.dimacs.specs.declared.Opening.TheVariants as how
+use Rattle.dimacs.specs.declared.Refusal.{Refusal}
 use Rattle.dimacs.proofs.Loops.{and_on}
 use Rattle.dimacs.proofs.Tests.{tested}
 use Rattle.dimacs.proofs.Clauses.{to_come}
 use Rattle.dimacs.proofs.Texts.{answers_step}
-use Rattle.clause.specs.Answers.{next_of}
-use Rattle.clause.specs.declared.Next.{Next}
-use Rattle.clause.specs.declared.Next.TheVariants as next
+use Rattle.clause.specs.Answers.{Next, next_of}
 use Rattle.formula.specs.Cursors.{cursor_of, opened_by, opened_as, cursor_after, step_of}
 use Rattle.formula.specs.declared.Cursor.{Cursor}
 use Rattle.formula.proofs.Runs.{CallLeads, call_leads}
@@ -38,8 +37,6 @@ use Rattle.service.specs.declared.Stage.{Stage}
 use Rattle.service.specs.declared.Stage.TheVariants as stage
 use Rattle.ring.specs.declared.Job.{Job}
 use Rattle.ring.specs.Ring.{job_of, goes_on}
-use Rattle.service.specs.declared.Goes.{Goes}
-use Rattle.service.specs.declared.Goes.TheVariants.{On, Over}
 use Rattle.service.specs.Serving.{within, Reply, opening, answering, opening_goes, next_goes, serving, served_part}
 use Rattle.tray.specs.Calls.{Put, serve}
 use Rattle.fairness.specs.Promises.{Lent, Holds, said_alone}
@@ -51,49 +48,46 @@ turns_left n (stage.Fresh f m) = 1 + (n + 1) / 2
 turns_left n (stage.Reading c) = (n + 1 - c.progress.place) / 2
 
 abbrev pub turns_left_of : Job → ℕ
-turns_left_of j = turns_left j.length j.stage
+turns_left_of j = turns_left j.part.length j.stage
 
-over : {X : Type 0} {c : Cursor} → Over ≡ On c → X
-over h = let z : ◌≡◌ {A = ℕ} 0 1 = cc in absurd (omega arith)
+never : {X A : Type 0} {x : A} → ◌≡◌ {A = Option A} None (Some x) → X
+never h = absurd (cc)
 
-never : {X : Type 0} {j : Job} → ◌≡◌ {A = Option Job} none (some j) → X
-never h = let z : ◌≡◌ {A = ℕ} 0 1 = cc in absurd (omega arith)
-
-serving_falls : (s : List ℕ) (x : Stage) (c : Cursor) → (serving s own_room x).goes ≡ On c → turns_left (length s) (stage.Reading c) < turns_left (length s) x
+serving_falls : (s : List ℕ) (x : Stage) (c : Cursor) → (serving s own_room x).goes ≡ Some c → turns_left (length s) (stage.Reading c) < turns_left (length s) x
 unfolding serving opened_as
 serving_falls s (stage.Fresh f m) c h = omega arith
 serving_falls s (stage.Reading x) c h = go (step_of s own_room x).cursor (step_of s own_room x).answer (call_leads s own_room x) h
   where
-    go : (y : Cursor) (a : Next) → CallLeads s own_room x y a → next_goes y a ≡ On c → to_come s c.progress.place < to_come s x.progress.place
-    go y (next.Clause extra n) l g = let e : y ≡ c = cc in subst (λ z. to_come s z.progress.place < to_come s x.progress.place) e l.1
-    go y next.Ended l g = over g
-    go y (next.Refused r n) l g = over g
+    go : (y : Cursor) (a : Next) → CallLeads s own_room x y a → next_goes y a ≡ Some c → to_come s c.progress.place < to_come s x.progress.place
+    go y (Ok (Some k)) l g = let e : y ≡ c = cc in subst (λ z. to_come s z.progress.place < to_come s x.progress.place) e l.1
+    go y (Ok None) l g = never g
+    go y (Err r) l g = never g
 
 -- A job's own part of an area.
 abbrev part : Job → List ℕ → List ℕ
-part j area = take j.length (drop j.start area)
+part j area = take j.part.length (drop j.part.start area)
 
 -- A job goes on with a cursor, and its part was within the area.
 record GoesOn (j : Job) (area : List ℕ) (j' : Job) : Type 0 where
   cursor : Cursor
   is : j' ≡ goes_on j cursor
-  size : length (part j area) ≡ j.length
-  served : (serving (part j area) own_room j.stage).goes ≡ On cursor
+  size : length (part j area) ≡ j.part.length
+  served : (serving (part j area) own_room j.stage).goes ≡ Some cursor
 
-serve_goes : (j : Job) (e : Lent) (j' : Job) → (desk.serve j e).goes ≡ some j' → GoesOn j e.area j'
+serve_goes : (j : Job) (e : Lent) (j' : Job) → (desk.serve j e).goes ≡ Some j' → GoesOn j e.area j'
 unfolding serve served_part
 serve_goes j e j' h =
-    tested (within j.start j.length (length e.area))
+    tested (within j.part.start j.part.length (length e.area))
     (λ w.
-    let l = leb-true (j.start + j.length) (length e.area) w in
+    let l = leb-true (j.part.start + j.part.length) (length e.area) w in
     go (serving (part j e.area) own_room j.stage).goes refl (simp (length-take, length-drop) (omega arith)) (rw w at h))
     (λ w. never (rw w at h))
   where
-    go : (g : Goes) → (serving (part j e.area) own_room j.stage).goes ≡ g → length (part j e.area) ≡ j.length → goes_by j g ≡ some j' → GoesOn j e.area j'
-    go Over q n g = never g
-    go (On c) q n g = record { cursor = c; is = let k : goes_on j c ≡ j' = cc in sym k; size = n; served = q }
+    go : (g : Option Cursor) → (serving (part j e.area) own_room j.stage).goes ≡ g → length (part j e.area) ≡ j.part.length → goes_by j g ≡ Some j' → GoesOn j e.area j'
+    go None q n g = never g
+    go (Some c) q n g = record { cursor = c; is = let k : goes_on j c ≡ j' = cc in sym k; size = n; served = q }
 
-pub falls : (j : Job) (e : Lent) (j' : Job) → (desk.serve j e).goes ≡ some j' → turns_left_of j' < turns_left_of j
+pub falls : (j : Job) (e : Lent) (j' : Job) → (desk.serve j e).goes ≡ Some j' → turns_left_of j' < turns_left_of j
 falls j e j' h =
     let g = serve_goes j e j' h in
     subst (λ x. turns_left_of x < turns_left_of j) (sym g.is)
@@ -101,28 +95,28 @@ falls j e j' h =
 
 -- A job names the put's part of the area.
 abbrev pub PartOf : Put → Job → Type 0
-PartOf p j = (j.start ≡ p.start) × (j.length ≡ p.length)
+PartOf p j = (j.part.start ≡ p.start) × (j.part.length ≡ p.length)
 
-pub lasts : (p : Put) (j : Job) (e : Lent) (j' : Job) → PartOf p j → (desk.serve j e).goes ≡ some j' → PartOf p j'
+pub lasts : (p : Put) (j : Job) (e : Lent) (j' : Job) → PartOf p j → (desk.serve j e).goes ≡ Some j' → PartOf p j'
 lasts p j e j' o h = subst (PartOf p) (sym (serve_goes j e j' h).is) o
 
 -- A put that makes a job names a format and a mode, in which the job begins.
 pub record Begins (p : Put) (make : ℕ → Job) : Type 0 where
   pub format : Format
   pub mode : Mode
-  pub kind_known : kind_of p.format p.mode ≡ Clauses format mode
+  pub kind_known : kind_of p.format p.mode ≡ Some (Clauses format mode)
   pub is : make ≡ (λ k. job_of k p.start p.length (stage.Fresh format mode))
 
 pub entry_begins : (p : Put) (make : ℕ → Job) → desk.entry p ≡ good make → Begins p make
 entry_begins p make h = go (kind_of p.format p.mode) refl h
   where
     not_good : {X : Type 0} (n : ℕ) → ◌≡◌ {A = Entry Job} (bad n) (good make) → X
-    not_good n e = let z : ◌≡◌ {A = ℕ} 0 1 = cc in absurd (omega arith)
+    not_good n e = absurd (cc)
 
-    go : (x : Kind) → kind_of p.format p.mode ≡ x → entry_by p x ≡ good make → Begins p make
-    go Unknown q g = not_good _ g
-    go (Log m) q g = not_good _ g
-    go (Clauses f m) q g =
+    go : (x : Option Kind) → kind_of p.format p.mode ≡ x → entry_by p x ≡ good make → Begins p make
+    go None q g = not_good _ g
+    go (Some (Log m)) q g = not_good _ g
+    go (Some (Clauses f m)) q g =
         tested (within p.start p.length p.lent)
         (λ w.
         let e : good (λ k. job_of k p.start p.length (stage.Fresh f m)) ≡ good make = rw w at g in
@@ -145,7 +139,7 @@ module _ (bytes : List ℕ) where
   pub alike : (p : Put) (j : Job) (e : Lent) → PartOf p j → Holds p bytes e → desk.serve j e ≡ solo j
   unfolding serve served_part
   alike p j e o h =
-      let w : within j.start j.length (length e.area) ≡ true = rw (o.0, o.1) (le-leb (p.start + p.length) (length e.area) h.within) in
+      let w : within j.part.start j.part.length (length e.area) ≡ true = rw (o.0, o.1) (le-leb (p.start + p.length) (length e.area) h.within) in
       let s : part j e.area ≡ bytes = rw (o.0, o.1) h.same in
       rw (w, s)
 
@@ -188,8 +182,8 @@ module _ (bytes : List ℕ) (k start size : ℕ) (f : Format) where
       from : (limits : Limits) (p : ℕ) → Whole (solo bytes) (between bytes k start size f m.ends limits (texts.begin p)) (map answering (texts.answers_from read f limits own_room (texts.begin p)))
       from limits p = whole_from bytes k start size f m.ends limits (suc (to_come bytes p)) (texts.begin p) (omega arith)
 
-      go : (o : Opening) → solo bytes job ≡ serves (opening o) (goes_by job (opening_goes (opened_by f m o) o))
+      go : (o : Result Opening Refusal) → solo bytes job ≡ serves (opening o) (goes_by job (opening_goes (opened_by f m o) o))
           → Whole (solo bytes) job (opening (texts.text_by f m.rigor own_room read o).opened ∷ map answering (texts.text_by f m.rigor own_room read o).answers)
-      go (how.Header h p) q = whole_more (solo bytes) q (from (limits_of f m.rigor h) p)
-      go (how.NoHeader p) q = whole_more (solo bytes) q (from unlimited p)
-      go (how.Refused r) q = last q
+      go (Ok (how.Header h p)) q = whole_more (solo bytes) q (from (limits_of f m.rigor h) p)
+      go (Ok (how.NoHeader p)) q = whole_more (solo bytes) q (from unlimited p)
+      go (Err r) q = last q

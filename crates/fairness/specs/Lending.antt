@@ -1,17 +1,15 @@
 -- What the tray promises over any calls on a fresh tray that is lent, each on what the last one left behind the reference.
-use Rattle.std.specs.Prelude.{ℕ, ◌+◌, ◌*◌, ◌/◌, ◌≤◌, true, false, List, [], ◌∷◌, map, ◌≡◌, length, ℤ}
-use Rattle.dimacs.specs.Names.{Reason, number_of, kind_of, places}
+use Rattle.std.specs.Prelude.{ℕ, ◌+◌, ◌*◌, ◌/◌, ◌≤◌, true, false, Some, Result, Ok, List, [], ◌∷◌, map, ◌≡◌, length, ℤ}
+use Rattle.dimacs.specs.Names.{number_of, kind_of, places}
 use Rattle.dimacs.specs.declared.Format.{Format}
 use Rattle.dimacs.specs.declared.Kind.TheVariants.{Clauses}
 use Rattle.dimacs.specs.declared.Mode.{Mode}
 use Rattle.rota.specs.Rota as rota
 use Rattle.rota.specs.Rota.{Call, Answer, refused, tickets, upward, verdicts, withdrawals, is_withdrawn, turns, heard, to_the_last, concluded, AtOwnTurns, Hears}
+use Rattle.dimacs.specs.declared.Reason.{Reason}
 use Rattle.ring.specs.declared.Tray.{Tray}
 use Rattle.ring.specs.Ring.{empty_tray, waiting}
-use Rattle.tray.specs.declared.PutAnswer.{PutAnswer}
-use Rattle.tray.specs.declared.PutAnswer.TheVariants as putting
-use Rattle.tray.specs.declared.TurnAnswer.{TurnAnswer}
-use Rattle.tray.specs.declared.WithdrawAnswer.{WithdrawAnswer}
+use Rattle.tray.specs.declared.Told.{Told}
 use Rattle.service.specs.Serving.{Reply}
 use Rattle.tray.specs.Calls.{Put}
 use Rattle.tray.specs.Answers.{put_says, turn_says, withdraw_says, NumberAlone}
@@ -20,9 +18,9 @@ use Rattle.fairness.specs.Promises.{Lent, Calls, Counted, Holds, said_alone}
 
 -- A call as it went: what it named or was lent, its answer, and the tray that it left; after a turn also what the buffer then held.
 pub data Event : Type 0 where
-  put : Put → PutAnswer → Tray → Event
-  turn : Lent → TurnAnswer → List ℤ → Tray → Event
-  withdraw : ℕ → WithdrawAnswer → Tray → Event
+  put : Put → Result ℕ Reason → Tray → Event
+  turn : Lent → Result Told Reason → List ℤ → Tray → Event
+  withdraw : ℕ → Result ℕ Reason → Tray → Event
 
 -- The call.
 abbrev pub call_in : Event → Call Put Lent
@@ -94,7 +92,7 @@ LentEnoughPlaces = (es : List Event) → AllKeep empty_tray es → Counted (fina
 pub record AfterPut (before : List Event) (p : Put) (k : ℕ) (after : List Event) : Type 0 where
   pub tray : Tray
   pub first : AllKeep empty_tray before
-  pub given : LentPut (finally empty_tray before) p tray (putting.Ticket k)
+  pub given : LentPut (finally empty_tray before) p tray (Ok k)
   pub since : AllKeep tray after
 
 -- The bound: the verdict comes within so many turns, whatever they are lent.
@@ -107,7 +105,7 @@ LentBound =
 abbrev pub LentContent : Type 0
 LentContent =
     (before : List Event) (p : Put) (k : ℕ) (after : List Event) (f : Format) (m : Mode) (bytes : List ℕ)
-    → kind_of p.format p.mode ≡ Clauses f m
+    → kind_of p.format p.mode ≡ Some (Clauses f m)
     → AfterPut before p k after → is_withdrawn k (said after) ≡ false
     → AtOwnTurns (Holds p bytes) k (called after) (said after)
     → Hears (said_alone f m bytes) (heard k (said after))
@@ -116,7 +114,7 @@ LentContent =
 abbrev pub LentDemand : Type 0
 LentDemand =
     (before : List Event) (p : Put) (k : ℕ) (after : List Event) (f : Format) (m : Mode) (bytes : List ℕ)
-    → kind_of p.format p.mode ≡ Clauses f m
+    → kind_of p.format p.mode ≡ Some (Clauses f m)
     → AfterPut before p k after → is_withdrawn k (said after) ≡ false
     → AtOwnTurns (Holds p bytes) k (called after) (said after)
     → places * (2 + (p.length + 1) / 2) ≤ turns (said after)
@@ -125,8 +123,8 @@ LentDemand =
 -- After some calls a ticket is done with: no later turn answers it, and each later withdrawal of it is refused with 24.
 pub record LentDoneWith (before : List Event) (k : ℕ) : Type 0 where
   pub unheard : (after : List Event) → AllKeep (finally empty_tray before) after → heard k (said after) ≡ []
-  pub not_waiting : (after : List Event) (a : WithdrawAnswer) (u : Tray) → AllKeep (finally empty_tray before) after
-      → LentWithdrawal (finally (finally empty_tray before) after) k u a → withdraw_says a ≡ refused (number_of Reason.ticket_not_waiting)
+  pub not_waiting : (after : List Event) (a : Result ℕ Reason) (u : Tray) → AllKeep (finally empty_tray before) after
+      → LentWithdrawal (finally (finally empty_tray before) after) k u a → withdraw_says a ≡ refused (number_of Reason.TicketNotWaiting)
 
 -- The silence: so it is after its verdict.
 abbrev pub LentSilence : Type 0

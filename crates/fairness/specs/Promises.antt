@@ -1,6 +1,7 @@
 -- What the tray promises over any calls from a fresh one, each on the tray that the last one left, each turn with its own lent area and buffer.
-use Rattle.std.specs.Prelude.{ℕ, ◌+◌, ◌*◌, ◌/◌, ◌≤◌, true, false, List, [], ◌∷◌, map, ◌≡◌, length, take, drop, ℤ}
-use Rattle.dimacs.specs.Names.{Reason, number_of, kind_of, own_room, places}
+use Rattle.std.specs.Prelude.{ℕ, ◌+◌, ◌*◌, ◌/◌, ◌≤◌, true, false, Some, List, [], ◌∷◌, map, ◌≡◌, length, take, drop, ℤ}
+use Rattle.dimacs.specs.Names.{number_of, kind_of, own_room, places}
+use Rattle.dimacs.specs.declared.Reason.{Reason}
 use Rattle.dimacs.specs.Texts.{text}
 use Rattle.dimacs.specs.declared.Format.{Format}
 use Rattle.dimacs.specs.declared.Kind.TheVariants.{Clauses}
@@ -94,7 +95,7 @@ said_alone f m bytes = let t = text f m own_room bytes in opening t.opened ∷ m
 abbrev pub Content : Type 0
 Content =
     (before : Calls) (p : Put) (after : Calls) (k : ℕ) (f : Format) (m : Mode) (bytes : List ℕ)
-    → kind_of p.format p.mode ≡ Clauses f m
+    → kind_of p.format p.mode ≡ Some (Clauses f m)
     → (then_put before p).answer ≡ ticketed k → is_withdrawn k (since before p after) ≡ false
     → AtOwnTurns (Holds p bytes) k after (since before p after)
     → Hears (said_alone f m bytes) (heard k (since before p after))
@@ -103,7 +104,7 @@ Content =
 abbrev pub Demand : Type 0
 Demand =
     (before : Calls) (p : Put) (after : Calls) (k : ℕ) (f : Format) (m : Mode) (bytes : List ℕ)
-    → kind_of p.format p.mode ≡ Clauses f m
+    → kind_of p.format p.mode ≡ Some (Clauses f m)
     → (then_put before p).answer ≡ ticketed k → is_withdrawn k (since before p after) ≡ false
     → AtOwnTurns (Holds p bytes) k after (since before p after)
     → places * (2 + (p.length + 1) / 2) ≤ turns (since before p after)
@@ -112,7 +113,7 @@ Demand =
 -- After some calls a ticket is done with: no later turn answers it, and each later withdrawal of it is refused with 24.
 pub record DoneWith (before : Calls) (k : ℕ) : Type 0 where
   pub unheard : (after : Calls) → heard k (answers did (left before) after) ≡ []
-  pub not_waiting : (after : Calls) → (did (finally did (left before) after) (withdraw k)).answer ≡ refused (number_of Reason.ticket_not_waiting)
+  pub not_waiting : (after : Calls) → (did (finally did (left before) after) (withdraw k)).answer ≡ refused (number_of Reason.TicketNotWaiting)
 
 -- So it is after its verdict.
 abbrev pub Silence : Type 0

@@ -1,12 +1,11 @@
 -- What two jobs hear that are put for the same bytes, one to be read strictly and one leniently.
-use Rattle.std.specs.Prelude.{ℕ, Bool, true, false, cond, List, [], ◌∷◌, ◌≡◌}
+use Rattle.std.specs.Prelude.{ℕ, Bool, true, false, cond, Some, Ok, Err, List, [], ◌∷◌, ◌≡◌}
 use Rattle.dimacs.specs.Names.{in_mode, kind_of}
 use Rattle.dimacs.specs.Clauses.{clause, ended, refused}
 use Rattle.dimacs.specs.declared.Ends.{Ends}
 use Rattle.dimacs.specs.declared.Format.{Format}
 use Rattle.dimacs.specs.declared.Kind.TheVariants.{Clauses}
 use Rattle.dimacs.specs.declared.Mode.{Mode}
-use Rattle.dimacs.specs.declared.Opening.TheVariants as how
 use Rattle.dimacs.specs.declared.Rigor.TheVariants.{Strict, Lenient}
 use Rattle.rota.specs.Rota.{ticketed, is_withdrawn, heard, AtOwnTurns}
 use Rattle.service.specs.Serving.{Reply, opening, answering}
@@ -19,7 +18,7 @@ pub record JobFor (f : Format) (m : Mode) (bytes : List ℕ) : Type 0 where
   pub put : Put
   pub after : Calls
   pub ticket : ℕ
-  pub kind : kind_of put.format put.mode ≡ Clauses f m
+  pub kind : kind_of put.format put.mode ≡ Some (Clauses f m)
   pub given : (then_put before put).answer ≡ ticketed ticket
   pub stays : is_withdrawn ticket (since before put after) ≡ false
   pub held : AtOwnTurns (Holds put bytes) ticket after (since before put after)
@@ -30,9 +29,8 @@ has_heard j = heard j.ticket (since j.before j.put j.after)
 
 -- A refusal was said, of a header or instead of a clause.
 abbrev pub is_refusal : Reply → Bool
-is_refusal (opening (how.Header h at)) = false
-is_refusal (opening (how.NoHeader at)) = false
-is_refusal (opening (how.Refused r)) = true
+is_refusal (opening (Ok o)) = false
+is_refusal (opening (Err r)) = true
 is_refusal (answering (clause extra so)) = false
 is_refusal (answering ended) = false
 is_refusal (answering (refused r so)) = true

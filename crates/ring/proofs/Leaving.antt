@@ -1,13 +1,13 @@
 -- How a ticket leaves: how many stand before it, and those behind it move up. Assumes nothing.
 use Prim.Native.Nat.{ℕ, suc, ◌+◌, ◌-◌, ◌%◌, ◌≤◌, ◌<◌}
-use mathlib.Core.Bool.{true, false}
 use mathlib.Core.List.{◌∷◌}
 use mathlib.Core.Path.{◌≡◌, sym, ◌∙◌}
 use native.Mathlib.Omega.{arith}
 use borrow.Author.Tests.{eq-eqb, ne_eqb, lt-ltb, le-ltb}
 use lib.ListN.{get_or, set}
 use Rattle.dimacs.specs.Names.{places}
-use Rattle.ring.specs.Ring.{ring, no_job, how_many, ahead, moved_up, closed_up, taken_out_at, taken_out}
+use Rattle.std.specs.Prelude.{Some, None}
+use Rattle.ring.specs.Ring.{ring, no_job, how_many, ahead, moved_up, closed_up, place_at, place_of}
 use Rattle.ring.specs.declared.Job.{Job}
 use Rattle.ring.specs.declared.Tray.{Tray}
 
@@ -43,22 +43,32 @@ module _ {k : ℕ} {t : Tray} {n i : ℕ} (m : NotAmong k t n i) where
       let q : ahead k (ring t.jobs (t.head + i) (n - i)) ≡ suc (ahead k (ring t.jobs (t.head + (i + 1)) (n - (i + 1)))) = rw (next_ring l) (rw e) in
       record { up_to = omega arith; so_far = let p = m.so_far in omega arith }
 
-  pub ahead_found : i < n → (at_next ((t.head % places + i) % places)).ticket ≡ k → i ≡ ahead k (ring t.jobs t.head n)
+  found_at : i < n → (at_next ((t.head % places + i) % places)).ticket ≡ k → i ≡ ahead k (ring t.jobs t.head n)
   unfolding ahead
-  ahead_found l same =
+  found_at l same =
       let e = eq-eqb k (at_next ((t.head + i) % places)).ticket (sym same ∙ rw same_place) in
       let q : ahead k (ring t.jobs (t.head + i) (n - i)) ≡ 0 = rw (next_ring l) (rw e) in
       let p = m.so_far in
       omega arith
 
-  pub ahead_nowhere : n ≤ i → i ≡ ahead k (ring t.jobs t.head n)
+  nowhere_at : n ≤ i → i ≡ ahead k (ring t.jobs t.head n)
   unfolding ahead
-  ahead_nowhere l =
+  nowhere_at l =
       let h = m.up_to in
       let z : n - i ≡ 0 = omega arith in
       let q : ahead k (ring t.jobs (t.head + i) (n - i)) ≡ 0 = rw z in
       let p = m.so_far in
       omega arith
+
+  module _ (a : n ≡ how_many t) where
+    same_at : i ≡ ahead k (ring t.jobs t.head n) → place_at t i ≡ place_of t k
+    same_at b = rw (b, a)
+
+    pub ahead_found : i < n → (at_next ((t.head % places + i) % places)).ticket ≡ k → Some i ≡ place_of t k
+    ahead_found l same = rw (lt-ltb i (how_many t) (omega arith)) at (same_at (found_at l same))
+
+    pub ahead_nowhere : n ≤ i → None ≡ place_of t k
+    ahead_nowhere l = rw (le-ltb i (how_many t) (omega arith)) at (same_at (nowhere_at l))
 
 -- From the first job behind the one that leaves on, those up to the i-th have moved up; the rest of the record is as it was.
 pub record Moving (n : ℕ) (t : Tray) (from : ℕ) (u : Tray) (i : ℕ) : Type 0 where
@@ -86,14 +96,3 @@ module _ {n : ℕ} {t : Tray} {from : ℕ} {u : Tray} {i : ℕ} (m : Moving n t 
       let a : n - (i + 1) ≡ 0 = omega arith in
       let e : u.jobs ≡ moved_up t.jobs (t.head % places) from (n - (from + 1)) = sym (m.jobs ∙ rw a) in
       rw (e, m.head, m.given)
-
-module _ (t : Tray) (k n i : ℕ) (a : n ≡ how_many t) (b : i ≡ ahead k (ring t.jobs t.head n)) where
-  same_at : taken_out_at t i ≡ taken_out t k
-  unfolding taken_out
-  same_at = rw (b, a)
-
-  pub out_found : i < n → (u : Tray) → u ≡ closed_up t n i → record { tray = u; found = true } ≡ taken_out t k
-  out_found l u e = rw (e, a) (rw (lt-ltb i (how_many t) (omega arith)) at same_at)
-
-  pub out_missing : n ≤ i → record { tray = t; found = false } ≡ taken_out t k
-  out_missing l = rw (le-ltb i (how_many t) (omega arith)) at same_at

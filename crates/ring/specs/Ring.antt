@@ -1,5 +1,5 @@
 -- The ring of jobs: those that wait, from the front on, and the record without one of them.
-use Rattle.std.specs.Prelude.{ℕ, zero, suc, ◌+◌, ◌-◌, ◌%◌, min, true, false, cond, List, [], ◌∷◌, get_or, set, replicate, leb, ltb, eqb}
+use Rattle.std.specs.Prelude.{ℕ, zero, suc, ◌+◌, ◌-◌, ◌%◌, min, cond, Option, Some, None, option_map, List, [], ◌∷◌, get_or, set, replicate, leb, ltb, eqb}
 use Rattle.dimacs.specs.Names.{in_mode, places}
 use Rattle.dimacs.specs.declared.Format.TheVariants.{Plain}
 use Rattle.dimacs.specs.declared.Rigor.TheVariants.{Strict}
@@ -7,17 +7,12 @@ use Rattle.dimacs.specs.declared.Ends.TheVariants.{LineFeed}
 use Rattle.formula.specs.declared.Cursor.{Cursor}
 use Rattle.service.specs.declared.Stage.{Stage}
 use Rattle.service.specs.declared.Stage.TheVariants.{Fresh, Reading}
-use Rattle.service.specs.declared.Goes.{Goes}
-use Rattle.service.specs.declared.Goes.TheVariants.{On, Over}
 use Rattle.ring.specs.declared.Job.{Job}
 use Rattle.ring.specs.declared.Tray.{Tray}
-use Rattle.ring.specs.declared.Front.{Front}
-use Rattle.ring.specs.declared.Front.TheVariants as front
-use Rattle.ring.specs.declared.TakenOut.{TakenOut}
 
 -- A job by its parts.
 abbrev pub job_of : ℕ → ℕ → ℕ → Stage → Job
-job_of k start size s = record { ticket = k; start = start; length = size; stage = s }
+job_of k start size s = record { ticket = k; part = record { start = start; length = size }; stage = s }
 
 -- What stands in a place that no job was put in.
 abbrev pub no_job : Job
@@ -45,10 +40,10 @@ module _ (t : Tray) where
   abbrev pub place_behind : ℕ → ℕ
   place_behind i = (t.head % places + i) % places
 
--- The job at the front of those that wait.
-abbrev pub front_of : List Job → Front
-front_of [] = front.Nothing
-front_of (j ∷ js) = front.Waits j
+-- The job at the front of those that wait, if one does.
+abbrev pub front_of : List Job → Option Job
+front_of [] = None
+front_of (j ∷ js) = Some j
 
 -- A job goes to the back, if there is a place.
 unfoldable pub joined : Tray → Job → Tray
@@ -58,13 +53,13 @@ joined t j =
 
 -- A job with the cursor with which it goes on.
 abbrev pub goes_on : Job → Cursor → Job
-goes_on j c = job_of j.ticket j.start j.length (Reading c)
+goes_on j c = job_of j.ticket j.part.start j.part.length (Reading c)
 
--- The job at the front, served, goes to the back or leaves.
-abbrev pub passed : Tray → Job → Goes → Tray
-passed t j (On c) =
+-- The job at the front, served, goes to the back with its cursor, or leaves.
+abbrev pub passed : Tray → Job → Option Cursor → Tray
+passed t j (Some c) =
     record { jobs = set t.jobs (place_behind t (how_many t)) (goes_on j c); head = place_behind t 1; count = how_many t; given = t.given }
-passed t j Over = record { jobs = t.jobs; head = place_behind t 1; count = how_many t - 1; given = t.given }
+passed t j None = record { jobs = t.jobs; head = place_behind t 1; count = how_many t - 1; given = t.given }
 
 -- How many jobs stand before the one with the ticket, or how many there are.
 unfoldable pub ahead : ℕ → List Job → ℕ
@@ -80,11 +75,14 @@ moved_up js h i (suc m) = moved_up (set js ((h + i) % places) (get_or js ((h + i
 abbrev pub closed_up : Tray → ℕ → ℕ → Tray
 closed_up t n i = record { jobs = moved_up t.jobs (t.head % places) i (n - (i + 1)); head = t.head; count = n - 1; given = t.given }
 
--- A ticket that has so many jobs ahead of it leaves, if that is not all of them.
-abbrev pub taken_out_at : Tray → ℕ → TakenOut
-taken_out_at t i =
-    cond (ltb i (how_many t)) (record { tray = closed_up t (how_many t) i; found = true }) (record { tray = t; found = false })
+-- So many jobs ahead, if that is not all of them.
+abbrev pub place_at : Tray → ℕ → Option ℕ
+place_at t i = cond (ltb i (how_many t)) (Some i) None
 
--- A ticket leaves, if it waits.
-unfoldable pub taken_out : Tray → ℕ → TakenOut
-taken_out t k = taken_out_at t (ahead k (waiting t))
+-- How many jobs stand before the one with the ticket, if it waits.
+abbrev pub place_of : Tray → ℕ → Option ℕ
+place_of t k = place_at t (ahead k (waiting t))
+
+-- The tray without the job that has the ticket, if it waits.
+unfoldable pub taken_out : Tray → ℕ → Option Tray
+taken_out t k = option_map (closed_up t (how_many t)) (place_of t k)

@@ -3,26 +3,37 @@
 // Any record of these types is a ring: its head is taken modulo the places, and it counts no more jobs than there are places.
 #![tactic(auto)]
 
-ghost use Rattle.std.specs.Prelude.{◌≡◌, ◌-◌, ◌≤◌, ◌<◌};
+ghost use Rattle.std.specs.Prelude.{◌≡◌, ◌≤◌, ◌<◌};
 ghost use Rattle.dimacs.specs.Names.{places};
 ghost use Rattle.ring.specs.Ring as def;
-ghost use Rattle.ring.specs.Ring.{empty_tray, how_many, waiting, front_of, joined, goes_on, passed, ahead, closed_up, taken_out};
+ghost use Rattle.ring.specs.Ring.{empty_tray, how_many, waiting, front_of, joined, goes_on, passed, place_of, closed_up, taken_out};
 
 use dimacs::{Ends, Format, Mode, PLACES, Rigor};
 use formula::Cursor;
-use service::{Goes, Stage};
+use service::{Part, Stage};
 
 // A job: its ticket, the part of the area that is its text, and how far that is read.
-#[derive(Clone, Copy)]
+#[derive(Clone, Copy, Debug, PartialEq, Eq)]
 pub struct Job {
     pub ticket: u64,
-    pub start: usize,
-    pub length: usize,
+    pub part: Part,
     pub stage: Stage,
 }
 
+impl Job {
+    // The job with the cursor with which it goes on.
+    fn goes_on(self, cursor: Cursor) -> Job
+        ensures { result ≡ goes_on self cursor }
+    {
+        Job {
+            stage: Stage::Reading(cursor),
+            ..self
+        }
+    }
+}
+
 // The places, the one where the round begins, how many jobs wait from there on, and how many tickets were given.
-#[derive(Clone, Copy)]
+#[derive(Clone, Copy, Debug, PartialEq, Eq)]
 pub struct Tray {
     pub jobs: [Job; PLACES],
     pub head: usize,
@@ -31,6 +42,7 @@ pub struct Tray {
 }
 
 // A fresh tray.
+#[tactic(auto, unfolding(crate::specs::Ring::empty_tray))]
 pub fn empty() -> Tray
     ensures { result ≡ empty_tray }
 {
@@ -40,8 +52,10 @@ pub fn empty() -> Tray
     };
     let job = Job {
         ticket: 0,
-        start: 0,
-        length: 0,
+        part: Part {
+            start: 0,
+            length: 0,
+        },
         stage: Stage::Fresh(Format::Plain, mode),
     };
     Tray {
@@ -56,139 +70,93 @@ pub fn empty() -> Tray
 pub fn how_many(tray: Tray) -> usize
     ensures { result ≡ how_many tray }
 {
-    if tray.count < PLACES {
-        return tray.count;
-    }
-    PLACES
+    tray.count.min(PLACES)
 }
 
-// The job whose turn is next, if one waits.
-#[derive(Clone, Copy)]
-pub enum Front {
-    Nothing,
-    Waits(Job),
-}
-
-// The job at the front.
-pub fn front_job(tray: Tray) -> Front
+// The job at the front, whose turn is next, if one waits.
+pub fn front_job(tray: Tray) -> Option<Job>
     ensures { result ≡ front_of (waiting tray) }
 {
     if tray.count == 0 {
-        return Front::Nothing;
+        return None;
     }
     let place = tray.head % PLACES;
-    Front::Waits(tray.jobs[place])
+    Some(tray.jobs[place])
 }
 
-// A job goes to the back, if there is a place.
-pub fn join(mut tray: Tray, job: Job) -> Tray
-    ensures { result ≡ joined tray job }
-{
-    let count = tray.count;
-    if PLACES <= count {
-        return tray;
-    }
-    let place = (tray.head % PLACES + count) % PLACES;
-    tray.jobs[place] = job;
-    tray.count = count + 1;
-    tray
-}
-
-// A job with the cursor with which it goes on.
-fn goes_on(job: Job, cursor: Cursor) -> Job
-    ensures { result ≡ goes_on job cursor }
-{
-    Job {
-        ticket: job.ticket,
-        start: job.start,
-        length: job.length,
-        stage: Stage::Reading(cursor),
-    }
-}
-
-// One less, or none.
-fn less_one(n: usize) -> usize
-    ensures { result ≡ n - 1 }
-{
-    if n == 0 {
-        return 0;
-    }
-    n - 1
-}
-
-// The job at the front, served, goes to the back or leaves.
-pub fn pass(mut tray: Tray, job: Job, goes: Goes) -> Tray
-    ensures { result ≡ passed tray job goes }
-{
-    let waiting = how_many(tray);
-    let head = tray.head % PLACES;
-    tray.head = (head + 1) % PLACES;
-    match goes {
-        Goes::On(cursor) => {
-            let back = (head + waiting) % PLACES;
-            tray.jobs[back] = goes_on(job, cursor);
-            tray.count = waiting;
+impl Tray {
+    // A job goes to the back, if there is a place.
+    #[tactic(auto, unfolding(crate::specs::Ring::joined))]
+    pub fn join(mut self, job: Job) -> Tray
+        ensures { result ≡ joined self job }
+    {
+        let count = self.count;
+        if PLACES <= count {
+            return self;
         }
-        Goes::Over => {
-            tray.count = less_one(waiting);
+        let place = (self.head % PLACES + count) % PLACES;
+        self.jobs[place] = job;
+        self.count = count + 1;
+        self
+    }
+
+    // The job at the front, served, goes to the back with its cursor, or leaves.
+    pub fn pass(mut self, job: Job, goes: Option<Cursor>) -> Tray
+        ensures { result ≡ passed self job goes }
+    {
+        let waiting = how_many(self);
+        let head = self.head % PLACES;
+        self.head = (head + 1) % PLACES;
+        match goes {
+            Some(cursor) => {
+                let back = (head + waiting) % PLACES;
+                self.jobs[back] = job.goes_on(cursor);
+                self.count = waiting;
+            }
+            None => {
+                self.count = waiting.saturating_sub(1);
+            }
         }
+        self
     }
-    tray
-}
 
-// How many of the first `count` jobs stand before the one with the ticket, or `count`.
-fn find(tray: Tray, count: usize, ticket: u64) -> usize
-    requires { count ≤ places }
-    ensures { result ≡ ahead ticket (def.ring tray.jobs tray.head count) }
-{
-    let head = tray.head % PLACES;
-    let mut i = 0;
-    while i < count {
-        let place = (head + i) % PLACES;
-        if tray.jobs[place].ticket == ticket {
-            return i;
+    // How many jobs stand before the one with the ticket, if it waits.
+    fn find(self, ticket: u64) -> Option<usize>
+        ensures { result ≡ place_of self ticket }
+    {
+        let count = how_many(self);
+        let head = self.head % PLACES;
+        for i in 0..count {
+            let place = (head + i) % PLACES;
+            if self.jobs[place].ticket == ticket {
+                return Some(i);
+            }
         }
-        i += 1;
+        None
     }
-    i
-}
 
-// The tray without the job that has `from` others ahead of it: those behind it move up.
-fn close_up(mut tray: Tray, count: usize, from: usize) -> Tray
-    requires { (from < count) × (count ≤ places) }
-    ensures { result ≡ closed_up tray count from }
-{
-    let head = tray.head % PLACES;
-    let mut i = from;
-    while i + 1 < count {
-        let place = (head + i) % PLACES;
-        let next = (head + i + 1) % PLACES;
-        let job = tray.jobs[next];
-        tray.jobs[place] = job;
-        i += 1;
+    // The tray without the job that has `from` others ahead of it: those behind it move up.
+    fn close_up(mut self, from: usize) -> Tray
+        requires { from < how_many self }
+        ensures { result ≡ closed_up self (how_many self) from }
+    {
+        let head = self.head % PLACES;
+        let left = how_many(self) - 1;
+        for i in from..left {
+            let place = (head + i) % PLACES;
+            let next = (head + i + 1) % PLACES;
+            self.jobs[place] = self.jobs[next];
+        }
+        self.count = left;
+        self
     }
-    tray.count = count - 1;
-    tray
-}
 
-// The tray after a ticket was to leave, and whether its job waited.
-#[derive(Clone, Copy)]
-pub struct TakenOut {
-    pub tray: Tray,
-    pub found: bool,
-}
-
-// The job with the ticket leaves, if it waits; the others keep their order.
-pub fn take_out(tray: Tray, ticket: u64) -> TakenOut
-    ensures { result ≡ taken_out tray ticket }
-{
-    let count = how_many(tray);
-    let i = find(tray, count, ticket);
-    if i < count {
-        return TakenOut {
-            tray: close_up(tray, count, i),
-            found: true,
-        };
+    // The tray without the job that has the ticket, if it waits; the others keep their order.
+    #[tactic(auto, unfolding(crate::specs::Ring::taken_out))]
+    pub fn take_out(self, ticket: u64) -> Option<Tray>
+        ensures { result ≡ taken_out self ticket }
+    {
+        let from = self.find(ticket)?;
+        Some(self.close_up(from))
     }
-    TakenOut { tray, found: false }
 }

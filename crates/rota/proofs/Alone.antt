@@ -2,7 +2,7 @@
 use Prim.Native.Nat.{ℕ}
 use mathlib.Core.Bool.{Bool, true, false}
 use mathlib.Core.List.{List, [], ◌∷◌}
-use mathlib.Core.Option.{none, some}
+use Rattle.std.specs.Prelude.{None, Some}
 use mathlib.Core.Path.{◌≡◌, refl, ap, sym, ◌∙◌, subst}
 use native.Mathlib.Omega.{arith}
 use Rattle.rota.specs.Rota.{Call, turn, Answer, told, answers, heard, to_the_last, is_withdrawn, AtOwnTurn, AtOwnTurns, Hears, Round, Served, serves, Desk, call}
@@ -13,12 +13,12 @@ use Rattle.rota.proofs.Fair.{stays, moves, finishes, fate, not_withdrawn, heard_
 
 -- All that a job is told, by a function that serves it alone.
 pub data Whole {J A : Type 0} (solo : J → Served J A) : J → List A → Type 0 where
-  last : {j : J} {a : A} → solo j ≡ serves a none → Whole solo j (a ∷ [])
-  more : {j j' : J} {a b : A} {l : List A} → solo j ≡ serves a (some j') → Whole solo j' (b ∷ l) → Whole solo j (a ∷ b ∷ l)
+  last : {j : J} {a : A} → solo j ≡ serves a None → Whole solo j (a ∷ [])
+  more : {j j' : J} {a b : A} {l : List A} → solo j ≡ serves a (Some j') → Whole solo j' (b ∷ l) → Whole solo j (a ∷ b ∷ l)
 
 module _ {J A : Type 0} (solo : J → Served J A) where
   -- It is told something.
-  pub whole_more : {j j' : J} {a : A} {l : List A} → solo j ≡ serves a (some j') → Whole solo j' l → Whole solo j (a ∷ l)
+  pub whole_more : {j j' : J} {a : A} {l : List A} → solo j ≡ serves a (Some j') → Whole solo j' l → Whole solo j (a ∷ l)
   whole_more e (last f) = more e (last f)
   whole_more e (more f w) = more e (more f w)
 
@@ -29,22 +29,22 @@ module _ {J A : Type 0} (solo : J → Served J A) where
     is : l ≡ (solo j).said ∷ head ∷ tail
     whole : Whole solo j' (head ∷ tail)
 
-  whole_rest : {j : J} {l : List A} (j' : J) → (solo j).goes ≡ some j' → Whole solo j l → Rest j j' l
-  whole_rest j' g (last e) = let f = ap (λ v. v.goes) e in let z : ◌≡◌ {A = ℕ} 0 1 = cc in absurd (omega arith)
+  whole_rest : {j : J} {l : List A} (j' : J) → (solo j).goes ≡ Some j' → Whole solo j l → Rest j j' l
+  whole_rest j' g (last e) = let f = ap (λ v. v.goes) e in absurd (cc)
   whole_rest j' g (more {j' = x} {a = a} {b = b} {l = r} e w) =
       let f = ap (λ v. v.goes) e in
       let same : x ≡ j' = cc in
       record { head = b; tail = r; is = ap (λ y. y ∷ b ∷ r) (sym (ap (λ v. v.said) e)); whole = subst (λ y. Whole solo y (b ∷ r)) same w }
 
-  whole_last : {j : J} {l : List A} → (solo j).goes ≡ none → Whole solo j l → l ≡ (solo j).said ∷ []
+  whole_last : {j : J} {l : List A} → (solo j).goes ≡ None → Whole solo j l → l ≡ (solo j).said ∷ []
   whole_last g (last e) = ap (λ y. y ∷ []) (sym (ap (λ v. v.said) e))
-  whole_last g (more e w) = let f = ap (λ v. v.goes) e in let z : ◌≡◌ {A = ℕ} 0 1 = cc in absurd (omega arith)
+  whole_last g (more e w) = let f = ap (λ v. v.goes) e in absurd (cc)
 
 own_turn : {P E A : Type 0} (F : E → Type 0) (k : ℕ) {c : Call P E} {x : Answer A} (e : E) (a : A) (b : Bool) → c ≡ turn e → x ≡ told k a b → AtOwnTurn F k c x → F e
 own_turn F k e a b i h o = (rw (i, h) at o) refl
 
 module _ {J P E A : Type 0} (D : Desk J P E A) (L : Lawful D) (Good : J → Type 0) (Fit : E → Type 0) (solo : J → Served J A)
-    (lasts : (j : J) (e : E) (j' : J) → Good j → (D.serve j e).goes ≡ some j' → Good j')
+    (lasts : (j : J) (e : E) (j' : J) → Good j → (D.serve j e).goes ≡ Some j' → Good j')
     (alike : (j : J) (e : E) → Good j → Fit e → D.serve j e ≡ solo j) where
   pub alone : (cs : List (Call P E)) (t : Round J) (j : J) (p : ℕ) (l : List A) → Good j → Sound D t → Stands j p t.waiting → Whole solo j l
       → is_withdrawn (D.ticket j) (answers (call D) t cs) ≡ false → AtOwnTurns Fit (D.ticket j) cs (answers (call D) t cs)

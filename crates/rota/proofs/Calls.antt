@@ -2,7 +2,7 @@
 use Prim.Native.Nat.{ℕ, ◌+◌, ◌<◌}
 use mathlib.Core.Bool.{true, false}
 use mathlib.Core.List.{List, [], ◌∷◌}
-use mathlib.Core.Option.{Option, none, some}
+use Rattle.std.specs.Prelude.{Option, None, Some}
 use mathlib.Core.Path.{◌≡◌, refl}
 use borrow.Author.Tests.{leb-false}
 use lib.ListN.{length}
@@ -16,9 +16,9 @@ module _ {J P E A : Type 0} (D : Desk J P E A) where
     nothing : {t : Round J} {c : Call P E} (n : ℕ) → Does t c (does (refused n) t)
     enters : {js : List J} {n : ℕ} {p : P} (make : ℕ → J) → D.entry p ≡ good make → length js < D.places
         → Does (round js n) (put p) (does (ticketed (n + 1)) (round (to_back js (make (n + 1))) (n + 1)))
-    goes : {js : List J} {n : ℕ} {e : E} (j j' : J) → (D.serve j e).goes ≡ some j'
+    goes : {js : List J} {n : ℕ} {e : E} (j j' : J) → (D.serve j e).goes ≡ Some j'
         → Does (round (j ∷ js) n) (turn e) (does (told (D.ticket j) (D.serve j e).said false) (round (to_back js j') n))
-    ends : {js : List J} {n : ℕ} {e : E} (j : J) → (D.serve j e).goes ≡ none
+    ends : {js : List J} {n : ℕ} {e : E} (j : J) → (D.serve j e).goes ≡ None
         → Does (round (j ∷ js) n) (turn e) (does (told (D.ticket j) (D.serve j e).said true) (round js n))
     leaves : {js : List J} {n k : ℕ} → waits D.ticket k js ≡ true
         → Does (round js n) (withdraw k) (does (withdrawn k) (round (without D.ticket k js) n))
@@ -34,8 +34,8 @@ module _ {J P E A : Type 0} (D : Desk J P E A) where
   turn_does e n (j ∷ js) = chosen (Does (round (j ∷ js) n) (turn e)) (D.short e) (λ _. nothing _) (λ _. go (D.serve j e).goes refl)
     where
       go : (o : Option J) → (D.serve j e).goes ≡ o → Does (round (j ∷ js) n) (turn e) (went D n js (D.ticket j) (D.serve j e).said o)
-      go none h = ends j h
-      go (some j') h = goes j j' h
+      go None h = ends j h
+      go (Some j') h = goes j j' h
 
   pub call_does : (t : Round J) (c : Call P E) → Does t c (call D t c)
   call_does t (put p) = put_does t p (D.entry p) refl

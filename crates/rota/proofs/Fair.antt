@@ -2,7 +2,7 @@
 use Prim.Native.Nat.{ℕ, zero, suc, ◌+◌, ◌*◌, ◌≤◌, ◌<◌}
 use mathlib.Core.Bool.{Bool, true, false}
 use mathlib.Core.List.{List, [], ◌∷◌}
-use mathlib.Core.Option.{none, some}
+use Rattle.std.specs.Prelude.{None, Some}
 use mathlib.Core.Path.{◌≡◌, refl, ap, sym, subst}
 use native.Mathlib.Omega.{arith}
 use native.Mathlib.Nat.{mul-le-mul_left, mul-suc}
@@ -21,9 +21,9 @@ module _ {J P E A : Type 0} (D : Desk J P E A) (j : J) (p : ℕ) (c : Call P E) 
   pub data Fate : Type 0 where
     stays : (q : ℕ) → Stands j q d.after.waiting → ((xs : List (Answer A)) → q + turns (d.answer ∷ xs) ≤ p + turns xs)
         → ((xs : List (Answer A)) → heard (D.ticket j) (d.answer ∷ xs) ≡ heard (D.ticket j) xs) → Fate
-    moves : (e : E) (j' : J) (q : ℕ) → c ≡ turn e → (D.serve j e).goes ≡ some j' → Stands j' q d.after.waiting
+    moves : (e : E) (j' : J) (q : ℕ) → c ≡ turn e → (D.serve j e).goes ≡ Some j' → Stands j' q d.after.waiting
         → d.answer ≡ told (D.ticket j) (D.serve j e).said false → Fate
-    finishes : (e : E) → c ≡ turn e → (D.serve j e).goes ≡ none → Gone D (D.ticket j) d.after
+    finishes : (e : E) → c ≡ turn e → (D.serve j e).goes ≡ None → Gone D (D.ticket j) d.after
         → d.answer ≡ told (D.ticket j) (D.serve j e).said true → Fate
 
 module _ {J P E A : Type 0} (D : Desk J P E A) where
@@ -57,7 +57,7 @@ pub heard_own : {A : Type 0} (k : ℕ) (a : A) (last : Bool) {x : Answer A} (xs 
 heard_own k a last xs e = rw (e, eq-eqb k k refl)
 
 module _ {J P E A : Type 0} (D : Desk J P E A) (L : Lawful D) (left : J → ℕ)
-    (falls : (j : J) (e : E) (j' : J) → (D.serve j e).goes ≡ some j' → left j' < left j) where
+    (falls : (j : J) (e : E) (j' : J) → (D.serve j e).goes ≡ Some j' → left j' < left j) where
   pub fair : (cs : List (Call P E)) (t : Round J) (j : J) (p : ℕ) → Sound D t → Stands j p t.waiting
       → is_withdrawn (D.ticket j) (answers (call D) t cs) ≡ false
       → D.places * left j + suc p ≤ turns (answers (call D) t cs) → concluded (heard (D.ticket j) (answers (call D) t cs)) ≡ true
@@ -92,7 +92,7 @@ pub record StandsLast {J P E A : Type 0} (D : Desk J P E A) (p : P) (k : ℕ) (t
 
 module _ {J P E A : Type 0} (D : Desk J P E A) where
   last_after : {t : Round J} {d : Done (Round J) A} (p : P) (k : ℕ) → Does D t (put p) d → d.answer ≡ ticketed k → StandsLast D p k d.after
-  last_after p k (nothing n) h = let z : ◌≡◌ {A = ℕ} 0 1 = cc in absurd (omega arith)
+  last_after p k (nothing n) h = absurd (cc)
   last_after p k (enters {js = js} {n = n} make e l) h =
       let same : n + 1 ≡ k = cc in
       record { job = make (n + 1); made = (make, e, ap make same); ahead_of = length js; below = l; stands = stands_last (make (n + 1)) js }

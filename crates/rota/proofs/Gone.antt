@@ -8,7 +8,7 @@ use native.Mathlib.Omega.{arith}
 use borrow.Author.Tests.{ne_eqb, eqb-true}
 use lib.Dec.{eqb}
 use Rattle.dimacs.proofs.Tests.{tested}
-use Rattle.dimacs.specs.Names.{Reason}
+use Rattle.dimacs.specs.declared.Reason.{Reason}
 use Rattle.rota.specs.Rota.{Call, withdraw, Answer, Done, answers, finally, is_withdrawn, heard, concluded, Round, fresh, Desk, waits, refuses, call}
 use Rattle.rota.proofs.Waiting.{unlike, not_head, not_tail, waits-snoc, waits_without, waits_taken, waits_upto}
 use Rattle.rota.proofs.Calls.{Does, nothing, enters, goes, ends, leaves, call_does}
@@ -22,7 +22,7 @@ module _ {J P E A : Type 0} (D : Desk J P E A) (k : ℕ) where
   -- From a round on, no turn answers the ticket, and each withdrawal of it is refused.
   pub record DoneWith (t : Round J) : Type 0 where
     pub unheard : (after : List (Call P E)) → heard k (answers (call D) t after) ≡ []
-    pub not_waiting : (after : List (Call P E)) → let u = finally (call D) t after in call D u (withdraw k) ≡ refuses u Reason.ticket_not_waiting
+    pub not_waiting : (after : List (Call P E)) → let u = finally (call D) t after in call D u (withdraw k) ≡ refuses u Reason.TicketNotWaiting
 
   -- The call says nothing to the ticket.
   abbrev Silent : Answer A → Type 0

@@ -1,7 +1,7 @@
 -- No more jobs wait than there are places, no two have one ticket, and none has a ticket that was not given. Assumes nothing.
 use Prim.Native.Nat.{ℕ, ◌+◌, ◌≤◌}
 use mathlib.Core.List.{List, [], ◌∷◌}
-use mathlib.Core.Option.{some}
+use Rattle.std.specs.Prelude.{Some}
 use mathlib.Core.Path.{◌≡◌}
 use native.Mathlib.Omega.{arith}
 use lib.ListN.{length}
@@ -12,7 +12,7 @@ use Rattle.rota.proofs.Calls.{Does, nothing, enters, goes, ends, leaves, call_do
 -- A put's job has the ticket that it is given, and a job that goes on keeps its own.
 pub record Lawful {J P E A : Type 0} (D : Desk J P E A) : Type 0 where
   pub made : (p : P) (make : ℕ → J) → D.entry p ≡ good make → (k : ℕ) → D.ticket (make k) ≡ k
-  pub kept : (j : J) (e : E) (j' : J) → (D.serve j e).goes ≡ some j' → D.ticket j' ≡ D.ticket j
+  pub kept : (j : J) (e : E) (j' : J) → (D.serve j e).goes ≡ Some j' → D.ticket j' ≡ D.ticket j
 
 module _ {J P E A : Type 0} (D : Desk J P E A) where
   -- What any calls leave.

@@ -13,7 +13,7 @@ use Rattle.rota.specs.Rota.{waits, without}
 
 -- A test does not say both.
 pub unlike : {P : Type 0} {b : Bool} → b ≡ true → b ≡ false → P
-unlike p q = let z : ◌≡◌ {A = ℕ} 0 1 = cc in absurd (omega arith)
+unlike p q = absurd (cc)
 
 pub length-snoc : {J : Type 0} (js : List J) (j : J) → length (js ++ j ∷ []) ≡ suc (length js)
 length-snoc js j = rw (length-append, add-one)

@@ -1,9 +1,9 @@
 -- A round of waiting jobs as a plain list, the calls on it, and what is counted in their answers.
 --
 -- J is a job, P what a put names, E what a turn is lent, A what the reader says.
-use Rattle.std.specs.Prelude.{ℕ, zero, suc, ◌+◌, Bool, true, false, cond, List, [], ◌∷◌, ◌++◌, ◌≡◌, length, eqb, leb}
-use Rattle.std.proofs.Math.Option.{Option, none, some}
-use Rattle.dimacs.specs.Names.{Reason, number_of}
+use Rattle.std.specs.Prelude.{ℕ, zero, suc, ◌+◌, Bool, true, false, cond, Option, None, Some, List, [], ◌∷◌, ◌++◌, ◌≡◌, length, eqb, leb}
+use Rattle.dimacs.specs.Names.{number_of}
+use Rattle.dimacs.specs.declared.Reason.{Reason}
 
 -- A call: a put, a turn, or a ticket that is withdrawn.
 pub data Call (P E : Type 0) : Type 0 where
@@ -182,26 +182,26 @@ module _ {J P E A : Type 0} (D : Desk J P E A) where
   put_by t (bad n) = does (refused n) t
   put_by t (good make) =
       let k = t.given + 1 in
-      cond (leb D.places (length t.waiting)) (refuses t Reason.tray_full)
-      (cond (leb D.largest t.given) (refuses t Reason.tickets_used_up) (does (ticketed k) (round (to_back t.waiting (make k)) k)))
+      cond (leb D.places (length t.waiting)) (refuses t Reason.TrayFull)
+      (cond (leb D.largest t.given) (refuses t Reason.TicketsUsedUp) (does (ticketed k) (round (to_back t.waiting (make k)) k)))
 
   -- A served job leaves, or goes to the back.
   abbrev pub went : ℕ → List J → ℕ → A → Option J → Done (Round J) A
-  went n js k a none = does (told k a true) (round js n)
-  went n js k a (some j) = does (told k a false) (round (to_back js j) n)
+  went n js k a None = does (told k a true) (round js n)
+  went n js k a (Some j) = does (told k a false) (round (to_back js j) n)
 
   -- A turn: the front job is served.
   abbrev pub turn_by : E → ℕ → List J → Done (Round J) A
-  turn_by e n [] = refuses (round [] n) Reason.nothing_waits
+  turn_by e n [] = refuses (round [] n) Reason.NothingWaits
   turn_by e n (j ∷ js) =
-      cond (D.short e) (refuses (round (j ∷ js) n) Reason.buffer_too_short)
+      cond (D.short e) (refuses (round (j ∷ js) n) Reason.BufferTooShort)
       (went n js (D.ticket j) (D.serve j e).said (D.serve j e).goes)
 
   -- A withdrawal: the others keep their order.
   abbrev pub withdraw_by : Round J → ℕ → Done (Round J) A
   withdraw_by t k =
       cond (waits D.ticket k t.waiting) (does (withdrawn k) (round (without D.ticket k t.waiting) t.given))
-      (refuses t Reason.ticket_not_waiting)
+      (refuses t Reason.TicketNotWaiting)
 
   -- A call on a round.
   abbrev pub call : Round J → Call P E → Done (Round J) A

@@ -4,6 +4,7 @@ use mathlib.Core.Bool.{true, false}
 use mathlib.Core.List.{List}
 use mathlib.Core.Path.{◌≡◌, refl, ap, sym, ◌∙◌}
 use native.Mathlib.Omega.{arith}
+use Rattle.std.specs.Prelude.{Ok, Err}
 use lib.ListN.{length, take, drop}
 use lib.IntN.{ℤ}
 use Rattle.dimacs.specs.Lined.{lined}
@@ -31,9 +32,9 @@ one_serving p q = (p.answer ∙ sym q.answer, p.buffer ∙ sym q.buffer)
 
 -- k is how many literals are said.
 pub said_k : (a : Reply) → k_in (said_of a) ≡ length (literals_in a)
-said_k (opening (how.Header h at)) = refl
-said_k (opening (how.NoHeader at)) = refl
-said_k (opening (how.Refused r)) = refl
+said_k (opening (Ok (how.Header h at))) = refl
+said_k (opening (Ok (how.NoHeader at))) = refl
+said_k (opening (Err r)) = refl
 said_k (answering a) = k_left a
 
 pub fresh_served : (s : List ℕ) (old : List ℤ) {x : Stage} {f : Format} {m : Mode} {o : Opened} {r : Served}

@@ -1,16 +1,15 @@
 -- Serving a job at a turn: what is said of its part of an area, how it goes on, and what the lent buffer then holds.
-use Rattle.std.specs.Prelude.{ℕ, ◌+◌, Bool, cond, List, [], ◌≡◌, length, take, drop, leb, ℤ}
-use Rattle.dimacs.specs.Names.{Reason, call_refusal}
+use Rattle.std.specs.Prelude.{ℕ, ◌+◌, Bool, cond, Option, Some, None, Result, Ok, Err, List, [], ◌≡◌, length, take, drop, leb, ℤ}
+use Rattle.dimacs.specs.Names.{call_refusal}
 use Rattle.dimacs.specs.Buffers.{laid}
 use Rattle.dimacs.specs.Clauses.{Answer, refused}
 use Rattle.dimacs.specs.declared.Format.{Format}
 use Rattle.dimacs.specs.declared.Opening.{Opening}
-use Rattle.dimacs.specs.declared.Opening.TheVariants as how
+use Rattle.dimacs.specs.declared.Reason.{Reason}
+use Rattle.dimacs.specs.declared.Refusal.{Refusal}
 use Rattle.dimacs.specs.declared.Spot.{Spot}
 use Rattle.clause.specs.Answers as answers
-use Rattle.clause.specs.Answers.{next_of, left_by}
-use Rattle.clause.specs.declared.Next.{Next}
-use Rattle.clause.specs.declared.Next.TheVariants as next
+use Rattle.clause.specs.Answers.{Next, next_of, left_by}
 use Rattle.formula.specs.Openings as openings
 use Rattle.formula.specs.Cursors.{opened_as, answer_from, step_of}
 use Rattle.formula.specs.declared.Cursor.{Cursor}
@@ -20,8 +19,6 @@ use Rattle.service.specs.declared.Stage.{Stage}
 use Rattle.service.specs.declared.Stage.TheVariants as stage
 use Rattle.service.specs.declared.Said.{Said}
 use Rattle.service.specs.declared.Said.TheVariants as said
-use Rattle.service.specs.declared.Goes.{Goes}
-use Rattle.service.specs.declared.Goes.TheVariants.{On, Over}
 use Rattle.service.specs.declared.Served.{Served}
 
 -- The format of a job's text, at any stage.
@@ -35,7 +32,7 @@ within start size lent = leb (start + size) lent
 
 -- What is said of a text at a turn, with its literals: how it opens, or the answer to a call for the next clause.
 pub data Reply : Type 0 where
-  opening : Opening → Reply
+  opening : Result Opening Refusal → Reply
   answering : Answer → Reply
 
 -- In the answer of a turn the literals are counted.
@@ -71,19 +68,18 @@ literals_in (answering a) = left_by a
 -- Serving a job: what is said, and the cursor with which it goes on, unless that is its verdict.
 pub record Serving : Type 0 where
   pub said : Reply
-  pub goes : Goes
+  pub goes : Option Cursor
 
 -- A refused header is a verdict.
-abbrev pub opening_goes : Cursor → Opening → Goes
-opening_goes c (how.Header h at) = On c
-opening_goes c (how.NoHeader at) = On c
-opening_goes c (how.Refused r) = Over
+abbrev pub opening_goes : Cursor → Result Opening Refusal → Option Cursor
+opening_goes c (Ok o) = Some c
+opening_goes c (Err r) = None
 
 -- So is the end, and a refusal.
-abbrev pub next_goes : Cursor → Next → Goes
-next_goes c (next.Clause extra n) = On c
-next_goes c next.Ended = Over
-next_goes c (next.Refused r n) = Over
+abbrev pub next_goes : Cursor → Next → Option Cursor
+next_goes c (Ok (Some x)) = Some c
+next_goes c (Ok None) = None
+next_goes c (Err x) = None
 
 -- A job served by an opening.
 abbrev pub opening_served : Opened → Served
@@ -100,7 +96,7 @@ serving s room (stage.Reading c) = record { said = answering (answer_from s room
 
 -- A job whose part is outside the area is refused.
 abbrev pub outside : Serving
-outside = record { said = answering (refused (call_refusal Reason.part_outside_area 0) []); goes = Over }
+outside = record { said = answering (refused (call_refusal Reason.PartOutsideArea 0) []); goes = None }
 
 -- Serving the part of an area that begins at a place and is so long.
 unfoldable pub served_part : List ℕ → ℕ → ℕ → ℕ → Stage → Serving

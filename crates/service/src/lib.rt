@@ -7,77 +7,70 @@ ghost use Rattle.service.specs.Serving as def;
 ghost use Rattle.service.specs.Serving.{format_in, opening_served, step_served, serving, served_part, Serves};
 
 use clause::Next;
-use dimacs::{Format, Mode, Opening, PART_OUTSIDE_AREA, refuse_call};
+use dimacs::{Format, Mode, Opening, Reason, Refusal, refuse_call};
 use formula::{Cursor, Opened, Stepped};
+use rows::Stopped;
 
 // A job before its first turn, with its format and mode, or between turns, with its cursor.
-#[derive(Clone, Copy)]
+#[derive(Clone, Copy, Debug, PartialEq, Eq)]
 pub enum Stage {
     Fresh(Format, Mode),
     Reading(Cursor),
 }
 
-// The format of a job's text, at any stage.
-pub fn format_of(stage: Stage) -> Format
-    ensures { result ≡ format_in stage }
-{
-    match stage {
-        Stage::Fresh(format, _) => format,
-        Stage::Reading(cursor) => cursor.format,
+impl Stage {
+    // The format of a job's text, at any stage.
+    pub fn format(self) -> Format
+        ensures { result ≡ format_in self }
+    {
+        match self {
+            Stage::Fresh(format, _) => format,
+            Stage::Reading(cursor) => cursor.format,
+        }
     }
 }
 
-// Whether a part stands within an area of some length.
-pub fn within(start: usize, length: usize, lent: usize) -> bool
-    ensures { result ≡ def.within start length lent }
-{
-    if start <= lent {
-        return length <= lent - start;
+// A part of an area.
+#[derive(Clone, Copy, Debug, PartialEq, Eq)]
+pub struct Part {
+    pub start: usize,
+    pub length: usize,
+}
+
+impl Part {
+    // Whether it stands within an area of some length.
+    pub fn is_within(self, lent: usize) -> bool
+        ensures { result ≡ def.within self.start self.length lent }
+    {
+        self.start <= lent && self.length <= lent - self.start
     }
-    false
 }
 
 // What the reader said at a turn: how the text opens, or the answer to a call for the next clause.
-#[derive(Clone, Copy)]
+#[derive(Clone, Copy, Debug, PartialEq, Eq)]
 pub enum Said {
-    Opening(Opening),
+    Opening(Result<Opening, Refusal>),
     Next(Next),
 }
 
-// Whether a job goes on, with its cursor.
-#[derive(Clone, Copy)]
-pub enum Goes {
-    On(Cursor),
-    Over,
-}
-
-// What was said to a job, and how it goes on.
-#[derive(Clone, Copy)]
+// What was said to a job, and the cursor with which it goes on, unless that is its verdict.
+#[derive(Clone, Copy, Debug, PartialEq, Eq)]
 pub struct Served {
     pub said: Said,
-    pub goes: Goes,
+    pub goes: Option<Cursor>,
 }
 
 // A job served by an opening: a refused header is its verdict.
 fn opened(o: Opened) -> Served
     ensures { result ≡ opening_served o }
 {
-    let opening = o.opening;
-    let cursor = o.cursor;
-    let said = Said::Opening(opening);
-    match opening {
-        Opening::Header(_, _) => Served {
-            said,
-            goes: Goes::On(cursor),
-        },
-        Opening::NoHeader(_) => Served {
-            said,
-            goes: Goes::On(cursor),
-        },
-        Opening::Refused(_) => Served {
-            said,
-            goes: Goes::Over,
-        },
+    let goes = match o.opening {
+        Ok(_) => Some(o.cursor),
+        Err(_) => None,
+    };
+    Served {
+        said: Said::Opening(o.opening),
+        goes,
     }
 }
 
@@ -85,25 +78,13 @@ fn opened(o: Opened) -> Served
 fn stepped(s: Stepped) -> Served
     ensures { result ≡ step_served s }
 {
-    let answer = s.answer;
-    let after = s.cursor;
-    let said = Said::Next(answer);
-    match answer {
-        Next::Clause { extra: _, count: _ } => Served {
-            said,
-            goes: Goes::On(after),
-        },
-        Next::Ended => Served {
-            said,
-            goes: Goes::Over,
-        },
-        Next::Refused {
-            refusal: _,
-            count: _,
-        } => Served {
-            said,
-            goes: Goes::Over,
-        },
+    let goes = match s.answer {
+        Ok(Some(_)) => Some(s.cursor),
+        Ok(None) | Err(_) => None,
+    };
+    Served {
+        said: Said::Next(s.answer),
+        goes,
     }
 }
 
@@ -118,16 +99,16 @@ fn read(stage: Stage, text: &[u8], lits: &mut [i32]) -> Served
 }
 
 // A job is served on its own part of the area. A part outside the area is refused.
-pub fn serve(stage: Stage, start: usize, length: usize, area: &[u8], lits: &mut [i32]) -> Served
-    ensures { Serves (served_part area.now start length (list.length lits.old) stage) lits.old lits.new result }
+pub fn serve(stage: Stage, part: Part, area: &[u8], lits: &mut [i32]) -> Served
+    ensures { Serves (served_part area.now part.start part.length (list.length lits.old) stage) lits.old lits.new result }
 {
-    if within(start, length, area.len()) {
-        let end = start + length;
-        return read(stage, &area[start..end], lits);
+    if part.is_within(area.len()) {
+        let end = part.start + part.length;
+        return read(stage, &area[part.start..end], lits);
     }
-    let refusal = refuse_call(PART_OUTSIDE_AREA, 0);
+    let refusal = refuse_call(Reason::PartOutsideArea, 0);
     Served {
-        said: Said::Next(Next::Refused { refusal, count: 0 }),
-        goes: Goes::Over,
+        said: Said::Next(Err(Stopped { refusal, count: 0 })),
+        goes: None,
     }
 }

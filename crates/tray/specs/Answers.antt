@@ -1,32 +1,28 @@
 -- What the answers of the tray's calls say, with the literals of what was said; and the number, place, line and column, k and ticket of each, by documents 01 and 02.
-use Rattle.std.specs.Prelude.{ℕ, List, ◌≡◌, take, ℤ}
+use Rattle.std.specs.Prelude.{ℕ, Some, None, Result, Ok, Err, List, ◌≡◌, take, ℤ}
+use Rattle.dimacs.specs.Names.{number_of}
 use Rattle.dimacs.specs.Spots.{nowhere}
 use Rattle.dimacs.specs.Clauses as def
+use Rattle.dimacs.specs.declared.Reason.{Reason}
 use Rattle.dimacs.specs.declared.Spot.{Spot}
-use Rattle.clause.specs.declared.Next.{Next}
-use Rattle.clause.specs.declared.Next.TheVariants as next
+use Rattle.clause.specs.Answers.{Next}
 use Rattle.rota.specs.Rota.{Answer, refused, ticketed, told, withdrawn}
 use Rattle.service.specs.declared.Said.{Said}
 use Rattle.service.specs.declared.Said.TheVariants as said
-use Rattle.tray.specs.declared.PutAnswer.{PutAnswer}
-use Rattle.tray.specs.declared.PutAnswer.TheVariants as putting
-use Rattle.tray.specs.declared.TurnAnswer.{TurnAnswer}
-use Rattle.tray.specs.declared.TurnAnswer.TheVariants as turning
-use Rattle.tray.specs.declared.WithdrawAnswer.{WithdrawAnswer}
-use Rattle.tray.specs.declared.WithdrawAnswer.TheVariants as withdrawing
+use Rattle.tray.specs.declared.Told.{Told}
 use Rattle.service.specs.Serving as serving
 use Rattle.service.specs.Serving.{Reply, opening, answering, said_of}
 
 -- An answer to a put.
-abbrev pub put_says : PutAnswer → Answer Reply
-put_says (putting.Refused n) = refused n
-put_says (putting.Ticket k) = ticketed k
+abbrev pub put_says : Result ℕ Reason → Answer Reply
+put_says (Err why) = refused (number_of why)
+put_says (Ok k) = ticketed k
 
 -- The literals that an answer counts stand first in the buffer after it.
 abbrev pub read_in : List ℤ → Next → def.Answer
-read_in new (next.Clause extra n) = def.clause extra (take n new)
-read_in new next.Ended = def.ended
-read_in new (next.Refused r n) = def.refused r (take n new)
+read_in new (Ok (Some c)) = def.clause c.extra (take c.count new)
+read_in new (Ok None) = def.ended
+read_in new (Err x) = def.refused x.refusal (take x.count new)
 
 -- What was said, with the literals that stand in the buffer.
 abbrev pub reply_in : List ℤ → Said → Reply
@@ -34,14 +30,14 @@ reply_in new (said.Opening o) = opening o
 reply_in new (said.Next a) = answering (read_in new a)
 
 -- An answer to a turn, with the buffer after it.
-abbrev pub turn_says : List ℤ → TurnAnswer → Answer Reply
-turn_says new (turning.Refused n) = refused n
-turn_says new (turning.Told k a last) = told k (reply_in new a) last
+abbrev pub turn_says : List ℤ → Result Told Reason → Answer Reply
+turn_says new (Err why) = refused (number_of why)
+turn_says new (Ok a) = told a.ticket (reply_in new a.said) a.last
 
 -- An answer to a withdrawal.
-abbrev pub withdraw_says : WithdrawAnswer → Answer Reply
-withdraw_says (withdrawing.Refused n) = refused n
-withdraw_says (withdrawing.Withdrawn k) = withdrawn k
+abbrev pub withdraw_says : Result ℕ Reason → Answer Reply
+withdraw_says (Err why) = refused (number_of why)
+withdraw_says (Ok k) = withdrawn k
 
 -- The number of a call that is refused, or of the refusal that a turn tells; 0 where nothing is refused.
 abbrev pub number_in : Answer Reply → ℕ

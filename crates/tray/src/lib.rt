@@ -9,103 +9,77 @@ ghost use Rattle.std.proofs.Math.ListN as list;
 ghost use Rattle.dimacs.specs.Names.{own_room};
 ghost use Rattle.service.specs.Serving.{Serves};
 ghost use Rattle.tray.specs.Calls as def;
-ghost use Rattle.tray.specs.Calls.{not_put, entered, put_of, not_turned, is_over, turned, Turns, withdraw_of};
+ghost use Rattle.tray.specs.Calls.{not_done, entered, put_of, turned, Turns, withdraw_of};
 
-use dimacs::{
-    BUFFER_TOO_SHORT, FORMAT_OR_MODE_UNKNOWN, Kind, LARGEST, NOTHING_WAITS, PART_OUTSIDE_AREA,
-    PLACES, ROOM, TICKET_NOT_WAITING, TICKETS_USED_UP, TRAY_FULL,
-};
-use service::{Goes, Said, Served, Stage};
+use dimacs::{Kind, LARGEST, PLACES, ROOM, Reason};
+use service::{Said, Served, Stage};
 
-// What a caller needs of the ring has its name here too.
-pub use ring::{Front, Job, Tray, empty, front_job, how_many};
+// What a caller needs of the ring and of a job has its name here too.
+pub use ring::{Job, Tray, empty, front_job, how_many};
+pub use service::Part;
 
-// What a put answers: a refusal's number, or the new ticket.
-#[derive(Clone, Copy)]
-pub enum PutAnswer {
-    Refused(u8),
-    Ticket(u64),
-}
-
-// A put's answer, and the tray after it.
-#[derive(Clone, Copy)]
-pub struct PutDone {
+// A call's answer, or why it is refused, and the tray after it.
+#[derive(Clone, Copy, Debug, PartialEq, Eq)]
+pub struct Done<A> {
     pub tray: Tray,
-    pub answer: PutAnswer,
+    pub answer: Result<A, Reason>,
 }
 
-// A refused put changes nothing.
-fn not_put(tray: Tray, number: u8) -> PutDone
-    ensures { result ≡ not_put tray number }
+// What a turn tells: the job's ticket, what was said to it, and whether that is its verdict.
+#[derive(Clone, Copy, Debug, PartialEq, Eq)]
+pub struct Told {
+    pub ticket: u64,
+    pub said: Said,
+    pub last: bool,
+}
+
+// A refused call changes nothing.
+fn not_done<A>(tray: Tray, reason: Reason) -> Done<A>
+    ensures { result ≡ not_done tray reason }
 {
-    PutDone {
+    Done {
         tray,
-        answer: PutAnswer::Refused(number),
+        answer: Err(reason),
     }
 }
 
 // A job to the back with a new ticket, if there is a place and a ticket left.
-fn enter(mut tray: Tray, start: usize, length: usize, stage: Stage) -> PutDone
-    ensures { result ≡ entered tray start length stage }
+#[tactic(auto, unfolding(crate::specs::Calls::entered))]
+fn enter(mut tray: Tray, part: Part, stage: Stage) -> Done<u64>
+    ensures { result ≡ entered tray part.start part.length stage }
 {
     let given = tray.given;
     if PLACES <= tray.count {
-        return not_put(tray, TRAY_FULL);
+        return not_done(tray, Reason::TrayFull);
     }
     if LARGEST <= given {
-        return not_put(tray, TICKETS_USED_UP);
+        return not_done(tray, Reason::TicketsUsedUp);
     }
     let ticket = given + 1;
     tray.given = ticket;
     let job = Job {
         ticket,
-        start,
-        length,
+        part,
         stage,
     };
-    PutDone {
-        tray: ring::join(tray, job),
-        answer: PutAnswer::Ticket(ticket),
+    Done {
+        tray: tray.join(job),
+        answer: Ok(ticket),
     }
 }
 
-// A job of a format and a mode by their numbers, whose text is the part of the area from `start` on that is `length` long.
-pub fn put(tray: Tray, format: u8, mode: u8, start: usize, length: usize, area: &[u8]) -> PutDone
-    ensures { result ≡ put_of tray (record { format = format; mode = mode; start = start; length = length; lent = list.length area.now }) }
+// A job of a format and a mode by their numbers, whose text is the part of the area.
+pub fn put(tray: Tray, format: u8, mode: u8, part: Part, area: &[u8]) -> Done<u64>
+    ensures { result ≡ put_of tray (record { format = format; mode = mode; start = part.start; length = part.length; lent = list.length area.now }) }
 {
     match dimacs::kind_of(format, mode) {
-        Kind::Clauses(known, strict) => {
-            if service::within(start, length, area.len()) {
-                return enter(tray, start, length, Stage::Fresh(known, strict));
+        Some(Kind::Clauses(known, strict)) => {
+            if part.is_within(area.len()) {
+                return enter(tray, part, Stage::Fresh(known, strict));
             }
-            not_put(tray, PART_OUTSIDE_AREA)
+            not_done(tray, Reason::PartOutsideArea)
         }
-        Kind::Log(_) => not_put(tray, FORMAT_OR_MODE_UNKNOWN),
-        Kind::Unknown => not_put(tray, FORMAT_OR_MODE_UNKNOWN),
-    }
-}
-
-// What a turn answers: a refusal's number; or a ticket, what was said, and whether that is its verdict.
-#[derive(Clone, Copy)]
-pub enum TurnAnswer {
-    Refused(u8),
-    Told { ticket: u64, said: Said, last: bool },
-}
-
-// A turn's answer, and the tray after it.
-#[derive(Clone, Copy)]
-pub struct TurnDone {
-    pub tray: Tray,
-    pub answer: TurnAnswer,
-}
-
-// A refused turn changes nothing.
-fn not_turned(tray: Tray, number: u8) -> TurnDone
-    ensures { result ≡ not_turned tray number }
-{
-    TurnDone {
-        tray,
-        answer: TurnAnswer::Refused(number),
+        Some(Kind::Log(_)) | None => not_done(tray, Reason::FormatOrModeUnknown),
     }
 }
 
@@ -114,79 +88,47 @@ fn serve(job: Job, area: &[u8], lits: &mut [i32]) -> Served
     requires { own_room ≤ list.length lits.old }
     ensures { Serves (def.serve area.now job) lits.old lits.new result }
 {
-    let stage = job.stage;
-    service::serve(stage, job.start, job.length, area, &mut lits[..ROOM])
-}
-
-// Whether that is the job's verdict.
-fn is_over(goes: Goes) -> bool
-    ensures { result ≡ is_over goes }
-{
-    match goes {
-        Goes::On(_) => false,
-        Goes::Over => true,
-    }
+    service::serve(job.stage, job.part, area, &mut lits[..ROOM])
 }
 
 // The front job, served.
-fn tell(tray: Tray, job: Job, served: Served) -> TurnDone
+fn tell(tray: Tray, job: Job, served: Served) -> Done<Told>
     ensures { result ≡ turned tray job served }
 {
-    let said = served.said;
-    let goes = served.goes;
-    TurnDone {
-        tray: ring::pass(tray, job, goes),
-        answer: TurnAnswer::Told {
-            ticket: job.ticket,
-            said,
-            last: is_over(goes),
-        },
+    let told = Told {
+        ticket: job.ticket,
+        said: served.said,
+        last: served.goes.is_none(),
+    };
+    Done {
+        tray: tray.pass(job, served.goes),
+        answer: Ok(told),
     }
 }
 
 // The front job's turn. The buffer then holds the literals read, and after them what it held.
-pub fn turn(tray: Tray, area: &[u8], lits: &mut [i32]) -> TurnDone
+pub fn turn(tray: Tray, area: &[u8], lits: &mut [i32]) -> Done<Told>
     ensures { Turns tray area.now lits.old lits.new result }
 {
-    match front_job(tray) {
-        Front::Nothing => not_turned(tray, NOTHING_WAITS),
-        Front::Waits(job) => {
-            if lits.len() < ROOM {
-                return not_turned(tray, BUFFER_TOO_SHORT);
-            }
-            tell(tray, job, serve(job, area, lits))
-        }
+    let Some(job) = front_job(tray) else {
+        return not_done(tray, Reason::NothingWaits);
+    };
+    if lits.len() < ROOM {
+        return not_done(tray, Reason::BufferTooShort);
     }
-}
-
-// What a withdrawal answers: a refusal's number, or the ticket that is withdrawn.
-#[derive(Clone, Copy)]
-pub enum WithdrawAnswer {
-    Refused(u8),
-    Withdrawn(u64),
-}
-
-// A withdrawal's answer, and the tray after it.
-#[derive(Clone, Copy)]
-pub struct WithdrawDone {
-    pub tray: Tray,
-    pub answer: WithdrawAnswer,
+    tell(tray, job, serve(job, area, lits))
 }
 
 // The job with the ticket leaves; the others keep their order.
-pub fn withdraw(tray: Tray, ticket: u64) -> WithdrawDone
+#[tactic(auto, unfolding(crate::specs::Calls::withdraw_of))]
+pub fn withdraw(tray: Tray, ticket: u64) -> Done<u64>
     ensures { result ≡ withdraw_of tray ticket }
 {
-    let out = ring::take_out(tray, ticket);
-    let left = out.tray;
-    if out.found {
-        return WithdrawDone {
+    match tray.take_out(ticket) {
+        Some(left) => Done {
             tray: left,
-            answer: WithdrawAnswer::Withdrawn(ticket),
-        };
-    }
-    WithdrawDone {
-        tray: left,
-        answer: WithdrawAnswer::Refused(TICKET_NOT_WAITING),
+            answer: Ok(ticket),
+        },
+        None => not_done(tray, Reason::TicketNotWaiting),
     }
 }

@@ -2,11 +2,11 @@
 use Rattle.tray.proofs.Turns.{nothing_turned, short_turned, job_turned}
 use Rattle.tray.proofs.turn.Goals as goal
 
-pub returns-in-Nothing : goal.returns-in-Nothing
-returns-in-Nothing c = nothing_turned _ _ _ c.front_job.ensures c.in-Nothing.is c.not_turned.ensures
+pub returns-in_default : goal.returns-in_default
+returns-in_default c = nothing_turned _ _ _ c.front_job.ensures c.in_default.is c.not_done.ensures
 
 pub returns-then-lits-lt-ROOM : goal.returns-then-lits-lt-ROOM
-returns-then-lits-lt-ROOM c = short_turned _ _ _ c.front_job.ensures c.in-Waits.is c.if-lits-lt-ROOM.true c.not_turned-then-lits-lt-ROOM.ensures
+returns-then-lits-lt-ROOM c = short_turned _ _ _ c.front_job.ensures c.in-Some.is c.if-lits-lt-ROOM.true c.not_done-then-lits-lt-ROOM.ensures
 
-pub returns-else-lits-lt-ROOM : goal.returns-else-lits-lt-ROOM
-returns-else-lits-lt-ROOM c = job_turned _ _ _ c.front_job.ensures c.in-Waits.is c.if-lits-lt-ROOM.false c.serve.ensures c.tell.ensures
+pub returns : goal.returns
+returns c = job_turned _ _ _ c.front_job.ensures c.in-Some.is c.if-lits-lt-ROOM.false c.serve.ensures c.tell.ensures
