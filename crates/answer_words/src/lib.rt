@@ -1,12 +1,15 @@
 // Answers as words, for hosts: what is answered is a number of its own, and the words begin with number, place, line and column of the refusal, all 0 where nothing is refused.
 #![tactic(auto)]
 
-ghost use Rattle.std.specs.Prelude.{◌≡◌};
-ghost use Rattle.answer_words.specs.Words.{opening_kind, opening_words, next_kind, next_words, verdict_kind, log_kind, log_words, written_kind, written_words};
+ghost use Rattle.std.specs.Prelude.{◌≡◌, ◌-◌, ◌≤◌, ◌∷◌, replicate};
+ghost use Rattle.dimacs.specs.Names.{refused_spot};
+ghost use Rattle.answer_words.specs.Words.{told_words, kind, header_there, opening_kind, opening_words, next_kind, next_words, verdict_kind, log_kind, log_words, written_kind, written_words};
 
 use clause::Next;
-use dimacs::{Opening, Refusal, Verdict};
-use log_line::Log;
+use dimacs::{Header, Opening, Refusal, Verdict};
+use log_line::Accepted;
+use numbers::refusal_words;
+use rows::Stopped;
 
 // The words of how a text opens: after the first four its counts of variables and clauses, and the third.
 pub const OPENING_WORDS: usize = 7;
@@ -20,32 +23,68 @@ pub const LOG_WORDS: usize = 6;
 // The words of a writer's answer: after the first four the length of the line.
 pub const WRITTEN_WORDS: usize = 5;
 
-// Whether a text has a header or none, or is refused.
-pub fn opening_kind(o: Opening) -> u32
-    ensures { result ≡ opening_kind o }
+// Whether nothing is there to be read, or something is, or it is refused.
+fn kind<T: Copy, E: Copy>(answer: Result<Option<T>, E>) -> u32
+    ensures { result ≡ kind answer }
 {
-    match o {
-        Opening::Header(_, _) => 1,
-        Opening::NoHeader(_) => 0,
-        Opening::Refused(_) => 2,
+    match answer {
+        Ok(None) => 0,
+        Ok(Some(_)) => 1,
+        Err(_) => 2,
     }
 }
 
-pub fn opening_words(o: Opening) -> [u64; OPENING_WORDS]
+// A refusal in so many words: zeros follow its own.
+fn refused<const N: usize>(refusal: Refusal) -> [u64; N]
+    requires { 4 ≤ N }
+    ensures { result ≡ told_words refusal.number refusal.place (refused_spot refusal) (replicate (N - 4) 0) }
+{
+    let mut words = [0; N];
+    words[..4].copy_from_slice(&refusal_words(refusal));
+    words
+}
+
+// A refusal with the count of literals before it, in so many words.
+fn stopped<const N: usize>(stopped: Stopped) -> [u64; N]
+    requires { 5 ≤ N }
+    ensures { result ≡ told_words stopped.refusal.number stopped.refusal.place (refused_spot stopped.refusal) (stopped.count ∷ replicate (N - 5) 0) }
+{
+    let mut words = refused(stopped.refusal);
+    words[4] = stopped.count as u64;
+    words
+}
+
+// The header of a text, if it has one.
+fn header_there(opening: Opening) -> Option<Header>
+    ensures { result ≡ header_there opening }
+{
+    match opening {
+        Opening::Header(header, _) => Some(header),
+        Opening::NoHeader(_) => None,
+    }
+}
+
+// Whether a text has a header or none, or is refused.
+pub fn opening_kind(o: Result<Opening, Refusal>) -> u32
+    ensures { result ≡ opening_kind o }
+{
+    kind(o.map(header_there))
+}
+
+pub fn opening_words(o: Result<Opening, Refusal>) -> [u64; OPENING_WORDS]
     ensures { result ≡ opening_words o }
 {
     match o {
-        Opening::Header(header, _) => [0, 0, 0, 0, header.variables, header.clauses, header.third],
-        Opening::NoHeader(_) => [0, 0, 0, 0, 0, 0, 0],
-        Opening::Refused(refusal) => [
-            refusal.number as u64,
-            refusal.place as u64,
-            refusal.line as u64,
-            refusal.column as u64,
-            0,
-            0,
-            0,
-        ],
+        Ok(Opening::Header(header, _)) => {
+            let Header {
+                variables,
+                clauses,
+                third,
+            } = header;
+            [0, 0, 0, 0, variables, clauses, third]
+        }
+        Ok(Opening::NoHeader(_)) => [0; OPENING_WORDS],
+        Err(refusal) => refused(refusal),
     }
 }
 
@@ -53,73 +92,51 @@ pub fn opening_words(o: Opening) -> [u64; OPENING_WORDS]
 pub fn next_kind(n: Next) -> u32
     ensures { result ≡ next_kind n }
 {
-    match n {
-        Next::Clause { extra: _, count: _ } => 1,
-        Next::Ended => 0,
-        Next::Refused {
-            refusal: _,
-            count: _,
-        } => 2,
-    }
+    kind(n)
 }
 
 pub fn next_words(n: Next) -> [u64; NEXT_WORDS]
     ensures { result ≡ next_words n }
 {
     match n {
-        Next::Clause { extra, count } => [0, 0, 0, 0, count as u64, extra],
-        Next::Ended => [0, 0, 0, 0, 0, 0],
-        Next::Refused { refusal, count } => [
-            refusal.number as u64,
-            refusal.place as u64,
-            refusal.line as u64,
-            refusal.column as u64,
-            count as u64,
-            0,
-        ],
+        Ok(Some(clause)) => [0, 0, 0, 0, clause.count as u64, clause.extra],
+        Ok(None) => [0; NEXT_WORDS],
+        Err(e) => stopped(e),
     }
 }
 
-fn verdict_kind(v: Verdict) -> u64
+// The number of a verdict for a host, 0 where no solution line stands.
+fn verdict_kind(v: Option<Verdict>) -> u64
     ensures { result ≡ verdict_kind v }
 {
     match v {
-        Verdict::None => 0,
-        Verdict::Yes => 1,
-        Verdict::No => 2,
-        Verdict::Unknown => 3,
+        None => 0,
+        Some(Verdict::Yes) => 1,
+        Some(Verdict::No) => 2,
+        Some(Verdict::Unknown) => 3,
     }
 }
 
 // Whether a log is accepted or refused.
-pub fn log_kind(l: Log) -> u32
+pub fn log_kind(l: Result<Accepted, Stopped>) -> u32
     ensures { result ≡ log_kind l }
 {
-    match l {
-        Log::Accepted {
-            verdict: _,
-            count: _,
-        } => 1,
-        Log::Refused {
-            refusal: _,
-            count: _,
-        } => 2,
-    }
+    kind(l.map(Some))
 }
 
-pub fn log_words(l: Log) -> [u64; LOG_WORDS]
+pub fn log_words(l: Result<Accepted, Stopped>) -> [u64; LOG_WORDS]
     ensures { result ≡ log_words l }
 {
     match l {
-        Log::Accepted { verdict, count } => [0, 0, 0, 0, count as u64, verdict_kind(verdict)],
-        Log::Refused { refusal, count } => [
-            refusal.number as u64,
-            refusal.place as u64,
-            refusal.line as u64,
-            refusal.column as u64,
-            count as u64,
+        Ok(accepted) => [
             0,
+            0,
+            0,
+            0,
+            accepted.count as u64,
+            verdict_kind(accepted.verdict),
         ],
+        Err(e) => stopped(e),
     }
 }
 
@@ -127,10 +144,7 @@ pub fn log_words(l: Log) -> [u64; LOG_WORDS]
 pub fn written_kind(w: Result<usize, Refusal>) -> u32
     ensures { result ≡ written_kind w }
 {
-    match w {
-        Ok(_) => 1,
-        Err(_) => 2,
-    }
+    kind(w.map(Some))
 }
 
 pub fn written_words(w: Result<usize, Refusal>) -> [u64; WRITTEN_WORDS]
@@ -138,12 +152,6 @@ pub fn written_words(w: Result<usize, Refusal>) -> [u64; WRITTEN_WORDS]
 {
     match w {
         Ok(length) => [0, 0, 0, 0, length as u64],
-        Err(refusal) => [
-            refusal.number as u64,
-            refusal.place as u64,
-            refusal.line as u64,
-            refusal.column as u64,
-            0,
-        ],
+        Err(refusal) => refused(refusal),
     }
 }

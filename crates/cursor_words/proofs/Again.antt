@@ -5,29 +5,34 @@ use mathlib.Core.Path.{◌≡◌, refl, sym, ap, ◌∙◌}
 use native.Mathlib.Omega.{arith}
 use lib.ListN.{get_or}
 use borrow.Author.Tests.{ne_eqb}
+use Rattle.std.specs.Prelude.{Option, None, Some, Result, Ok, Err}
 use Rattle.dimacs.specs.declared.Format.{Format}
 use Rattle.dimacs.specs.declared.Format.TheVariants.{Plain, Weighted, Grouped, Weighted2022}
 use Rattle.dimacs.specs.declared.Ends.{Ends}
 use Rattle.dimacs.specs.declared.Ends.TheVariants.{LineFeed, AlsoReturn}
 use Rattle.dimacs.specs.declared.Refusal.{Refusal}
-use Rattle.dimacs.specs.declared.Final.{Final}
-use Rattle.dimacs.specs.declared.Final.TheVariants.{Open, Ended, Refused}
 use Rattle.formula.specs.Cursors.{unknown}
 use Rattle.formula.specs.declared.Cursor.{Cursor}
-use Rattle.cursor_words.specs.Cursors.{format_kind, ends_kind, final_kind, final_refusal, cursor_words, largest_limit, held_ends, held_final, held_in, held_cursor, Holds}
+use Rattle.cursor_words.specs.Cursors.{format_kind, ends_kind, final_kind, final_refusal, cursor_words, largest_limit, held_format, held_ends, held_final, held_by, held_in, held_cursor, Holds}
 
 -- A refusal whose number is brought down to a byte.
 abbrev narrow : Refusal → Refusal
 narrow r = record { number = min r.number 255; place = r.place; line = r.line; column = r.column }
 
-final_again : (l : Final) → (final_refusal l).number ≤ 255 → held_final (final_kind l) (narrow (final_refusal l)) ≡ l
-final_again Open h = refl
-final_again Ended h = refl
-final_again (Refused r) h = let m : min r.number 255 ≡ r.number = omega arith in rw m
+final_again : (l : Option (Result Unit Refusal)) → (final_refusal l).number ≤ 255 → held_final (final_kind l) (narrow (final_refusal l)) ≡ l
+final_again None h = refl
+final_again (Some (Ok u)) h = refl
+final_again (Some (Err r)) h = let m : min r.number 255 ≡ r.number = omega arith in rw m
 
 ends_again : (e : Ends) → held_ends (ends_kind e) ≡ e
 ends_again LineFeed = refl
 ends_again AlsoReturn = refl
+
+format_again : (f : Format) → held_format (format_kind f) ≡ Some f
+format_again Plain = refl
+format_again Weighted = refl
+format_again Grouped = refl
+format_again Weighted2022 = refl
 
 module _ (c : Cursor) (literals : c.limits.literals ≤ largest_limit) (number : (final_refusal c.progress.last).number ≤ 255) where
   in_again : held_in c.format (cursor_words c) ≡ c
@@ -36,16 +41,10 @@ module _ (c : Cursor) (literals : c.limits.literals ≤ largest_limit) (number :
       let m : min c.limits.literals largest_limit ≡ c.limits.literals = omega arith in
       rw (m, final_again c.progress.last number, ends_again c.ends)
 
-  by_format : (f : Format) → c.format ≡ f → held_cursor (cursor_words c) ≡ held_in f (cursor_words c)
-  unfolding held_cursor
-  by_format Plain e = let q : format_kind c.format ≡ 1 = ap format_kind e in rw q
-  by_format Weighted e = let q : format_kind c.format ≡ 2 = ap format_kind e in rw q
-  by_format Grouped e = let q : format_kind c.format ≡ 3 = ap format_kind e in rw q
-  by_format Weighted2022 e = let q : format_kind c.format ≡ 4 = ap format_kind e in rw q
-
   -- Words that are those of a cursor hold it.
   pub holds : {w : List ℕ} → w ≡ cursor_words c → Holds c w
-  holds q = record { words = q; again = ap held_cursor q ∙ by_format c.format refl ∙ in_again }
+  unfolding held_cursor
+  holds q = record { words = q; again = ap held_cursor q ∙ ap (λ f. held_by f (cursor_words c)) (format_again c.format) ∙ in_again }
 
 -- Words that hold a cursor are its own.
 pub one_cursor : {c : Cursor} {w₁ w₂ : List ℕ} → Holds c w₁ → Holds c w₂ → w₁ ≡ w₂

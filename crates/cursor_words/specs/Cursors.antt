@@ -1,13 +1,12 @@
 -- Cursors as words, and the cursor that any words hold.
-use Rattle.std.specs.Prelude.{ℕ, min, cond, List, [], ◌∷◌, ◌≡◌, eqb, get_or}
+use Rattle.std.specs.Prelude.{ℕ, min, cond, List, ◌∷◌, ◌≡◌, eqb, get_or, Option, None, Some, Result, Ok, Err}
 use Rattle.dimacs.specs.Names.{call_numbered}
 use Rattle.dimacs.specs.declared.Format.{Format}
 use Rattle.dimacs.specs.declared.Format.TheVariants.{Plain, Weighted, Grouped, Weighted2022}
 use Rattle.dimacs.specs.declared.Ends.{Ends}
 use Rattle.dimacs.specs.declared.Ends.TheVariants.{LineFeed, AlsoReturn}
 use Rattle.dimacs.specs.declared.Refusal.{Refusal}
-use Rattle.dimacs.specs.declared.Final.{Final}
-use Rattle.dimacs.specs.declared.Final.TheVariants.{Open, Ended, Refused}
+use Rattle.numbers.specs.Words.{refusal_words}
 use Rattle.formula.specs.Cursors.{unknown}
 use Rattle.formula.specs.declared.Cursor.{Cursor}
 
@@ -24,29 +23,36 @@ ends_kind LineFeed = 0
 ends_kind AlsoReturn = 1
 
 -- The final answer: none yet, the end, or a refusal.
-abbrev pub final_kind : Final → ℕ
-final_kind Open = 0
-final_kind Ended = 1
-final_kind (Refused r) = 2
+abbrev pub final_kind : Option (Result Unit Refusal) → ℕ
+final_kind None = 0
+final_kind (Some (Ok u)) = 1
+final_kind (Some (Err r)) = 2
 
 -- The refusal that is repeated, or one of zeros.
-abbrev pub final_refusal : Final → Refusal
-final_refusal Open = call_numbered 0 0
-final_refusal Ended = call_numbered 0 0
-final_refusal (Refused r) = r
+abbrev pub final_refusal : Option (Result Unit Refusal) → Refusal
+final_refusal None = call_numbered 0 0
+final_refusal (Some (Ok u)) = call_numbered 0 0
+final_refusal (Some (Err r)) = r
 
 -- The words of a cursor: how far the text is read, its limits, its format and line rule, and the final answer with its refusal.
 abbrev pub cursor_words : Cursor → List ℕ
 cursor_words c =
     let p = c.progress in
     let limits = c.limits in
-    let r = final_refusal p.last in
     p.place ∷ p.count ∷ limits.literals ∷ limits.groups ∷ limits.clauses ∷ format_kind c.format ∷ ends_kind c.ends
-    ∷ final_kind p.last ∷ r.number ∷ r.place ∷ r.line ∷ r.column ∷ []
+    ∷ final_kind p.last ∷ refusal_words (final_refusal p.last)
 
 -- The largest limit of literals that a cursor can hold: it has 32 bits.
 abbrev pub largest_limit : ℕ
 largest_limit = 4294967295
+
+-- The format that a number holds, if any.
+abbrev pub held_format : ℕ → Option Format
+held_format n =
+    cond (eqb n (format_kind Plain)) (Some Plain)
+    (cond (eqb n (format_kind Weighted)) (Some Weighted)
+    (cond (eqb n (format_kind Grouped)) (Some Grouped)
+    (cond (eqb n (format_kind Weighted2022)) (Some Weighted2022) None)))
 
 -- The line rule that a number holds.
 abbrev pub held_ends : ℕ → Ends
@@ -57,8 +63,8 @@ abbrev pub held_refusal : List ℕ → Refusal
 held_refusal w = record { number = min (get_or w 8 0) 255; place = get_or w 9 0; line = get_or w 10 0; column = get_or w 11 0 }
 
 -- The final answer that a number and a refusal hold.
-abbrev pub held_final : ℕ → Refusal → Final
-held_final n r = cond (eqb n (final_kind Open)) Open (cond (eqb n (final_kind Ended)) Ended (Refused r))
+abbrev pub held_final : ℕ → Refusal → Option (Result Unit Refusal)
+held_final n r = cond (eqb n (final_kind None)) None (cond (eqb n (final_kind (Some (Ok tt)))) (Some (Ok tt)) (Some (Err r)))
 
 -- The cursor in a format that words hold. A limit of literals above the largest is the largest.
 unfoldable pub held_in : Format → List ℕ → Cursor
@@ -70,14 +76,14 @@ held_in f w =
       ends = held_ends (get_or w 6 0);
     }
 
--- The cursor that any words hold. Words of no format hold the cursor that repeats refusal 26.
+-- The cursor that words hold by what the word of their format does. Words of no format hold the cursor that repeats refusal 26.
+abbrev pub held_by : Option Format → List ℕ → Cursor
+held_by (Some f) w = held_in f w
+held_by None w = unknown.cursor
+
+-- The cursor that any words hold.
 unfoldable pub held_cursor : List ℕ → Cursor
-held_cursor w =
-    let f = get_or w 5 0 in
-    cond (eqb f (format_kind Plain)) (held_in Plain w)
-    (cond (eqb f (format_kind Weighted)) (held_in Weighted w)
-    (cond (eqb f (format_kind Grouped)) (held_in Grouped w)
-    (cond (eqb f (format_kind Weighted2022)) (held_in Weighted2022 w) unknown.cursor)))
+held_cursor w = held_by (held_format (get_or w 5 0)) w
 
 -- Words hold a cursor: they are its words, and it can be had from them again.
 pub record Holds (c : Cursor) (w : List ℕ) : Type 0 where

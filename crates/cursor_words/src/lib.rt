@@ -3,20 +3,18 @@
 // Any words are taken: those that no opening left hold the cursor that repeats refusal 26.
 #![tactic(auto)]
 
-ghost use Rattle.std.specs.Prelude.{◌≡◌, min};
+ghost use Rattle.std.specs.Prelude.{◌≡◌};
 ghost use Rattle.formula.specs.Cursors.{unknown};
-ghost use Rattle.cursor_words.specs.Cursors.{format_kind, ends_kind, final_kind, final_refusal, largest_limit, held_ends, held_refusal, held_final, held_in, held_cursor, Holds};
+ghost use Rattle.cursor_words.specs.Cursors.{format_kind, ends_kind, final_kind, final_refusal, held_format, held_ends, held_final, held_in, held_cursor, Holds};
 
-use dimacs::{Ends, FORMAT_OR_MODE_UNKNOWN, Final, Format, Limits, Progress, Refusal, refuse_call};
+use dimacs::{Ends, Format, Limits, Progress, Reason, Refusal, refuse_call};
 use formula::Cursor;
-use numbers::narrowed;
+use numbers::{refusal_of, refusal_words};
 
 // The words of a cursor.
 pub const WORDS: usize = 12;
 
-// The largest limit of literals that a cursor can hold.
-const LARGEST_LIMIT: u64 = 4294967295;
-
+// Only a host's words have numbers for these three: so each is a function here, and no `From` in the crate of its type.
 fn format_kind(format: Format) -> u64
     ensures { result ≡ format_kind format }
 {
@@ -37,24 +35,28 @@ fn ends_kind(ends: Ends) -> u64
     }
 }
 
-fn final_kind(last: Final) -> u64
+fn final_kind(last: Option<Result<(), Refusal>>) -> u64
     ensures { result ≡ final_kind last }
 {
     match last {
-        Final::Open => 0,
-        Final::Ended => 1,
-        Final::Refused(_) => 2,
+        None => 0,
+        Some(Ok(())) => 1,
+        Some(Err(_)) => 2,
     }
 }
 
 // The refusal that is repeated, or one of zeros.
-fn final_refusal(last: Final) -> Refusal
+fn final_refusal(last: Option<Result<(), Refusal>>) -> Refusal
     ensures { result ≡ final_refusal last }
 {
     match last {
-        Final::Open => refuse_call(0, 0),
-        Final::Ended => refuse_call(0, 0),
-        Final::Refused(refusal) => refusal,
+        Some(Err(refusal)) => refusal,
+        Some(Ok(())) | None => Refusal {
+            number: 0,
+            place: 0,
+            line: 0,
+            column: 0,
+        },
     }
 }
 
@@ -64,86 +66,87 @@ pub fn cursor_words(c: Cursor) -> [u64; WORDS]
 {
     let progress = c.progress;
     let limits = c.limits;
-    let format = c.format;
-    let ends = c.ends;
-    let last = progress.last;
-    let refusal = final_refusal(last);
+    let [number, place, line, column] = refusal_words(final_refusal(progress.last));
     [
         progress.place as u64,
         progress.count,
         limits.literals as u64,
         limits.groups,
         limits.clauses,
-        format_kind(format),
-        ends_kind(ends),
-        final_kind(last),
-        refusal.number as u64,
-        refusal.place as u64,
-        refusal.line as u64,
-        refusal.column as u64,
+        format_kind(c.format),
+        ends_kind(c.ends),
+        final_kind(progress.last),
+        number,
+        place,
+        line,
+        column,
     ]
 }
 
-// A number as a limit of literals. One above all that a cursor can hold goes to the largest.
-fn held_limit(n: u64) -> u32
-    ensures { result ≡ min n largest_limit }
+fn held_format(kind: u64) -> Option<Format>
+    ensures { result ≡ held_format kind }
 {
-    if n < LARGEST_LIMIT {
-        return n as u32;
+    match kind {
+        1 => Some(Format::Plain),
+        2 => Some(Format::Weighted),
+        3 => Some(Format::Grouped),
+        4 => Some(Format::Weighted2022),
+        _ => None,
     }
-    LARGEST_LIMIT as u32
 }
 
 fn held_ends(kind: u64) -> Ends
     ensures { result ≡ held_ends kind }
 {
-    if kind == 0 {
-        return Ends::LineFeed;
-    }
-    Ends::AlsoReturn
-}
-
-fn held_refusal(words: [u64; WORDS]) -> Refusal
-    ensures { result ≡ held_refusal words }
-{
-    Refusal {
-        number: narrowed(words[8]),
-        place: words[9] as usize,
-        line: words[10] as usize,
-        column: words[11] as usize,
+    match kind {
+        0 => Ends::LineFeed,
+        _ => Ends::AlsoReturn,
     }
 }
 
-fn held_final(kind: u64, refusal: Refusal) -> Final
+fn held_final(kind: u64, refusal: Refusal) -> Option<Result<(), Refusal>>
     ensures { result ≡ held_final kind refusal }
 {
-    if kind == 0 {
-        return Final::Open;
+    match kind {
+        0 => None,
+        1 => Some(Ok(())),
+        _ => Some(Err(refusal)),
     }
-    if kind == 1 {
-        return Final::Ended;
-    }
-    Final::Refused(refusal)
 }
 
-// The cursor in a format that words hold.
+// The cursor in a format that words hold. A limit of literals above the largest is the largest.
+#[tactic(auto, unfolding(crate::specs::Cursors::held_in))]
 fn held_in(format: Format, words: [u64; WORDS]) -> Cursor
     ensures { result ≡ held_in format words }
 {
-    let last = held_final(words[7], held_refusal(words));
+    let [
+        place,
+        count,
+        literals,
+        groups,
+        clauses,
+        _,
+        ends,
+        last,
+        number,
+        refused_place,
+        line,
+        column,
+    ] = words;
+    let refusal = refusal_of([number, refused_place, line, column]);
     Cursor {
         progress: Progress {
-            place: words[0] as usize,
-            count: words[1],
-            last,
+            place: place as usize,
+            count,
+            last: held_final(last, refusal),
         },
         limits: Limits {
-            literals: held_limit(words[2]),
-            groups: words[3],
-            clauses: words[4],
+            literals: u32::try_from(literals).unwrap_or(u32::MAX),
+            groups,
+            clauses,
         },
         format,
-        ends: held_ends(words[6]),
+        ends: held_ends(ends),
     }
 }
 
@@ -151,29 +154,25 @@ fn held_in(format: Format, words: [u64; WORDS]) -> Cursor
 fn no_cursor() -> Cursor
     ensures { result ≡ unknown.cursor }
 {
-    let limits = header::no_limits();
-    let refusal = refuse_call(FORMAT_OR_MODE_UNKNOWN, 0);
     Cursor {
         progress: Progress {
             place: 0,
             count: 0,
-            last: Final::Refused(refusal),
+            last: Some(Err(refuse_call(Reason::FormatOrModeUnknown, 0))),
         },
-        limits,
+        limits: header::no_limits(),
         format: Format::Plain,
         ends: Ends::LineFeed,
     }
 }
 
 // The cursor that any words hold.
+#[tactic(auto, unfolding(crate::specs::Cursors::held_cursor))]
 pub fn held_cursor(words: [u64; WORDS]) -> Cursor
     ensures { result ≡ held_cursor words }
 {
-    match words[5] {
-        1 => held_in(Format::Plain, words),
-        2 => held_in(Format::Weighted, words),
-        3 => held_in(Format::Grouped, words),
-        4 => held_in(Format::Weighted2022, words),
-        _ => no_cursor(),
+    match held_format(words[5]) {
+        Some(format) => held_in(format, words),
+        None => no_cursor(),
     }
 }

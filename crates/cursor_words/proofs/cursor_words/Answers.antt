@@ -7,5 +7,5 @@ use Rattle.cursor_words.proofs.Again.{holds}
 use Rattle.cursor_words.proofs.cursor_words.Goals as goal
 
 pub returns : goal.returns
-returns c = let k = c.final_kind.ensures in let e = c.ends_kind.ensures in let f = c.format_kind.ensures in let r = c.final_refusal-refusal.ensures in let number : c.final_refusal-refusal.result.number ≤ 255 = omega (arith, c.struct_known-2-1.given) in
-    holds _ (omega (arith, c.struct_known-1.given)) (subst (λ (x : Refusal). x.number ≤ 255) r number) (rw (k, e, f, r))
+returns c = let k = c.final_kind.ensures in let e = c.ends_kind.ensures in let f = c.format_kind.ensures in let r = c.final_refusal.ensures in let w = c.refusal_words.ensures in let number : c.final_refusal.result.number ≤ 255 = omega arith in
+    holds _ (omega arith) (subst (λ (x : Refusal). x.number ≤ 255) r number) (rw (k, e, f, w, r))
