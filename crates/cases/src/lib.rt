@@ -8,7 +8,7 @@ ghost use Rattle.lines.specs.Printed.{printed_case, printed_line};
 
 mod texts;
 
-use console::{Shortfall, print, skip, stop, take};
+use console::{Shortfall, print, skip, take};
 use dimacs::LARGEST;
 use lines::{Page, case_line};
 use std::io::{Read, Write};
@@ -29,7 +29,7 @@ pub trait Cases<R: Read, W: Write> {
 }
 
 // Answers case after case, until the input ends before a frame or something does not come whole. How many were answered is told.
-fn each<R: Read, W: Write, P: Cases<R, W>>(
+pub fn answers<R: Read, W: Write, P: Cases<R, W>>(
     program: &mut P,
     input: &mut R,
     out: &mut W,
@@ -49,22 +49,6 @@ fn each<R: Read, W: Write, P: Cases<R, W>>(
         program.answer(input, out, frame)?;
     }
     Ok(LARGEST)
-}
-
-// The same, and what did not come whole is told, and nothing follows it.
-pub fn answers<R: Read, W: Write, P: Cases<R, W>>(
-    program: &mut P,
-    input: &mut R,
-    out: &mut W,
-    frame: &mut [u8],
-) -> Result<u64, Shortfall>
-    ensures { IfOk result (λ n. n < 18446744073709551615 → IsAtEnd (R.remaining input.new)) }
-{
-    let answered = each(program, input, out, frame);
-    if let Err(shortfall) = answered {
-        stop(out, Err(shortfall));
-    }
-    answered
 }
 
 // Prints the number of a case, and tells whether all of the line was written.

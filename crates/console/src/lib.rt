@@ -70,11 +70,11 @@ pub fn skip<R: Read>(input: &mut R, length: usize) -> Result<(), Shortfall>
 }
 
 // What did not come whole is told, and nothing follows it.
-pub fn stop<W: Write>(out: &mut W, taken: Result<(), Shortfall>) -> bool
+pub fn stop<W: Write, T: Drop>(out: &mut W, taken: Result<T, Shortfall>) -> bool
     ensures { result ≡ false }
 {
     match taken {
-        Ok(()) => {}
+        Ok(_) => {}
         Err(Shortfall::Part(_)) => {
             print(out, b"cut\n");
         }

@@ -1,85 +1,83 @@
 // Lists a strict plain text from standard input: its header, its clauses, and how it ends.
 #![tactic(auto)]
 
-use clause::Next;
-use console::Taken;
-use dimacs::{Format, Opening};
+use cases::opening_line;
+use console::{Shortfall, print};
+use dimacs::Format;
 use formula::Cursor;
-use lines::{clause_line, header_line, refused_line};
+use lines::{Page, clause_line, refused_line};
+use rows::Stopped;
 use std::io::{Stdin, Stdout};
 
-// Prints what is laid in the page up to a place.
-fn show(stdout: &mut Stdout, page: &[u8], past: usize) {
-    console::print(stdout, lines::upto(page, past));
-}
+// The bytes of a text that are taken.
+const TEXT: usize = 65536;
 
-// The clauses from a cursor on, and the end or the refusal, each line laid in the page and then printed.
-fn clauses(stdout: &mut Stdout, text: &[u8], from: Cursor, lits: &mut [i32], page: &mut [u8]) {
+// The longest line.
+const PAGE: usize = 65536;
+
+// The most literals of a clause.
+const LITERALS: usize = 4096;
+
+// The clauses from a cursor on, up to the end, each line laid in the page and then printed.
+fn clauses(text: &[u8], from: Cursor, page: &mut Page, out: &mut Stdout) -> Result<(), Stopped> {
+    let mut lits = [0; LITERALS];
     let mut cursor = from;
     loop {
-        let step = cursor.next_clause(text, lits);
+        let step = cursor.next_clause(text, &mut lits);
+        let Some(clause) = step.answer? else {
+            print(out, b"end\n");
+            return Ok(());
+        };
+        clause_line(page, Format::Plain, clause.extra, &lits[..clause.count]);
+        page.show(out);
         cursor = step.cursor;
-        let answer = step.answer;
-        match answer {
-            Next::Clause { extra, count } => {
-                let past = clause_line(page, 0, Format::Plain, extra, &lits[..count]);
-                show(stdout, page, past);
-            }
-            Next::Ended => {
-                console::print(stdout, b"end\n");
-                return;
-            }
-            Next::Refused { refusal, count: _ } => {
-                let past = refused_line(page, 0, refusal);
-                return show(stdout, page, past);
-            }
-        }
     }
 }
 
-// The line of a header, or of none; a refusal is told by the first clause.
-fn opening_line(page: &mut [u8], opening: Opening) -> usize {
-    match opening {
-        Opening::Header(header, _) => header_line(page, 0, header, Format::Plain),
-        Opening::NoHeader(_) => lines::word(page, 0, b"header none\n"),
-        Opening::Refused(_) => 0,
-    }
-}
-
-fn list(stdout: &mut Stdout, text: &[u8], page: &mut [u8]) {
+// The line of a header, or of none, and the clauses. A refusal of the header is told by the first clause.
+fn list(text: &[u8], out: &mut Stdout) {
+    let mut bytes = [0; PAGE];
+    let mut page = Page {
+        bytes: &mut bytes,
+        at: 0,
+    };
     let opened = formula::open(text, 0, 0);
-    let opening = opened.opening;
-    let past = opening_line(page, opening);
-    show(stdout, page, past);
-    let mut lits = [0i32; 4096];
-    clauses(stdout, text, opened.cursor, &mut lits, page);
+    if let Ok(opening) = opened.opening {
+        opening_line(&mut page, opening, Format::Plain);
+        page.show(out);
+    }
+    if let Err(stopped) = clauses(text, opened.cursor, &mut page, out) {
+        refused_line(&mut page, stopped.refusal);
+        page.show(out);
+    }
 }
 
 // A text that fills its buffer, if it ends there.
-fn list_full(stdin: &mut Stdin, stdout: &mut Stdout, text: &[u8], page: &mut [u8]) {
-    let more = console::skip(stdin, 1);
-    match more {
-        Taken::Whole => {
-            console::print(stdout, b"too long\n");
+fn list_full(text: &[u8], stdin: &mut Stdin, stdout: &mut Stdout) -> Result<(), Shortfall> {
+    match console::skip(stdin, 1) {
+        Ok(()) => {
+            print(stdout, b"too long\n");
         }
-        Taken::Part(_) => list(stdout, text, page),
-        Taken::Failed => {
-            console::stop(stdout, more);
+        Err(Shortfall::Part(_)) => list(text, stdout),
+        Err(Shortfall::Failed) => return Err(Shortfall::Failed),
+    }
+    Ok(())
+}
+
+fn listed(stdin: &mut Stdin, stdout: &mut Stdout) -> Result<(), Shortfall> {
+    let mut text = [0; TEXT];
+    match console::take(stdin, &mut text) {
+        Ok(()) => list_full(&text, stdin, stdout),
+        Err(Shortfall::Part(count)) => {
+            list(&text[..count], stdout);
+            Ok(())
         }
+        Err(Shortfall::Failed) => Err(Shortfall::Failed),
     }
 }
 
 fn main(rt: HostRuntime) {
-    let mut stdin = rt.stdin();
     let mut stdout = rt.stdout();
-    let mut text = [0u8; 65536];
-    let mut page = [0u8; 65536];
-    let taken = console::take(&mut stdin, &mut text);
-    match taken {
-        Taken::Whole => list_full(&mut stdin, &mut stdout, &text, &mut page),
-        Taken::Part(n) => list(&mut stdout, &text[..n], &mut page),
-        Taken::Failed => {
-            console::stop(&mut stdout, taken);
-        }
-    }
+    let ended = listed(&mut rt.stdin(), &mut stdout);
+    console::stop(&mut stdout, ended);
 }

@@ -2,5 +2,5 @@
 use Rattle.dimacs.proofs.Clauses.{to_come}
 use Rattle.listing.proofs.clauses.Given as goal
 
-abbrev pub decreases-loop-extra : goal.decreases-loop-extra
-decreases-loop-extra l = to_come l.text l.cursor.progress.place
+abbrev pub decreases-loop-clause : goal.decreases-loop-clause
+decreases-loop-clause l = to_come l.text l.cursor.progress.place
