@@ -14,9 +14,11 @@ fn next_words(page: &mut Page, next: Next, format: Format, lits: &[i32], words: 
     ensures { Laid (printed_next next format lits.now words.now) page.old page.new }
 {
     match next {
-        Next::Clause { extra, count } => clause_words(page, format, extra, first(lits, count)),
-        Next::Ended => page.word(b"end"),
-        Next::Refused { refusal, count } => refused_words(page, refusal, count, words),
+        Ok(Some(clause)) => {
+            clause_words(page, format, clause.extra, first(lits, clause.count));
+        }
+        Ok(None) => page.word(b"end"),
+        Err(stopped) => refused_words(page, stopped.refusal, stopped.count, words),
     }
 }
 
