@@ -6,65 +6,56 @@
 ghost use Rattle.std.specs.Prelude.{◌≡◌};
 ghost use Rattle.latchtwig.specs.Outcomes.{outcome_of_log, outcome, number_told, place_told, words_told, Checks};
 
-use dimacs::{FORMAT_OR_MODE_UNKNOWN, Kind, Mode, ROOM, kind_of, refuse_call};
-use formula::Outcome;
-use log_line::Log;
-use numbers::narrowed;
+use dimacs::{Kind, Mode, ROOM, Reason, Refusal, kind_of, refuse_call};
+use numbers::{narrowed, refusal_words};
 
 // The whole log in a mode, with room for as many literals in all as where the caller lends no buffer.
-fn read_log(text: &[u8], mode: Mode) -> Outcome
+fn read_log(text: &[u8], mode: Mode) -> Result<(), Refusal>
     ensures { result ≡ outcome_of_log mode text.now }
 {
     let mut lits = [0i32; ROOM];
     match sat_solver_log::parse_log_as(text, mode, &mut lits) {
-        Log::Accepted {
-            verdict: _,
-            count: _,
-        } => Outcome::Read,
-        Log::Refused { refusal, count: _ } => Outcome::Refused(refusal),
+        Ok(_) => Ok(()),
+        Err(stopped) => Err(stopped.refusal),
     }
 }
 
 // The whole text of clauses, or the whole log, by the bytes of a format and a mode.
-fn read(text: &[u8], format: u8, mode: u8) -> Outcome
+#[tactic(auto, unfolding(crate::specs::Outcomes::outcome))]
+fn read(text: &[u8], format: u8, mode: u8) -> Result<(), Refusal>
     ensures { result ≡ outcome format mode text.now }
 {
     match kind_of(format, mode) {
-        Kind::Clauses(format, mode) => formula::read_text(text, format, mode),
-        Kind::Log(mode) => read_log(text, mode),
-        Kind::Unknown => Outcome::Refused(refuse_call(FORMAT_OR_MODE_UNKNOWN, 0)),
+        Some(Kind::Clauses(format, mode)) => formula::read_text(text, format, mode),
+        Some(Kind::Log(mode)) => read_log(text, mode),
+        None => Err(refuse_call(Reason::FormatOrModeUnknown, 0)),
     }
 }
 
 // The same by any two numbers.
-fn check(text: &[u8], format: u32, mode: u32) -> Outcome
+fn check(text: &[u8], format: u32, mode: u32) -> Result<(), Refusal>
     ensures { result ≡ outcome format mode text.now }
 {
-    read(text, narrowed(format as u64), narrowed(mode as u64))
+    read(text, narrowed(u64::from(format)), narrowed(u64::from(mode)))
 }
 
 // The number of the refusal, or 0 for a text read to its end.
-fn number_told(outcome: Outcome) -> u32
+fn number_told(outcome: Result<(), Refusal>) -> u32
     ensures { result ≡ number_told outcome }
 {
     match outcome {
-        Outcome::Read => 0,
-        Outcome::Refused(refusal) => refusal.number as u32,
+        Ok(()) => 0,
+        Err(refusal) => u32::from(refusal.number),
     }
 }
 
 // Number, place, line and column.
-fn words_told(outcome: Outcome, text: &[u8]) -> [u64; 4]
+fn words_told(outcome: Result<(), Refusal>, text: &[u8]) -> [u64; 4]
     ensures { result ≡ words_told text.now outcome }
 {
     match outcome {
-        Outcome::Read => [0, text.len() as u64, 0, 0],
-        Outcome::Refused(refusal) => [
-            refusal.number as u64,
-            refusal.place as u64,
-            refusal.line as u64,
-            refusal.column as u64,
-        ],
+        Ok(()) => [0, text.len() as u64, 0, 0],
+        Err(refusal) => refusal_words(refusal),
     }
 }
 
@@ -80,8 +71,8 @@ pub fn latchtwig_place(format: u32, mode: u32, text: &[u8]) -> u64
     ensures { result ≡ place_told text.now (outcome format mode text.now) }
 {
     match check(text, format, mode) {
-        Outcome::Read => text.len() as u64,
-        Outcome::Refused(refusal) => refusal.place as u64,
+        Ok(()) => text.len() as u64,
+        Err(refusal) => refusal.place as u64,
     }
 }
 

@@ -4,4 +4,4 @@ use Rattle.latchtwig.proofs.Outcomes.{outcome_narrowed}
 use Rattle.latchtwig.proofs.check.Goals as goal
 
 pub returns : goal.returns
-returns c = c.read.ensures ∙ outcome_narrowed _ _ _ c.narrowed.ensures c.narrowed-2.ensures
+returns c = let f = c.from.ensures in let m = c.from-2.ensures in c.read.ensures ∙ outcome_narrowed _ _ _ (rw f at c.narrowed.ensures) (rw m at c.narrowed-2.ensures)
