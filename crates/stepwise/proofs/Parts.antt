@@ -4,11 +4,13 @@ use mathlib.Core.List.{List}
 use mathlib.Core.Path.{◌≡◌, refl, sym, ap, subst, ◌∙◌}
 use lib.ListN.{length}
 use lib.IntN.{ℤ}
+use Rattle.std.specs.Prelude.{Result}
 use Rattle.dimacs.specs.Names.{log_format, kind_of}
 use Rattle.dimacs.specs.Buffers.{laid}
 use Rattle.clause.specs.Answers.{left_by}
 use Rattle.log_line.specs.Answers.{log_of, log_leaves}
-use Rattle.log_line.specs.declared.Log.{Log}
+use Rattle.rows.specs.declared.Stopped.{Stopped}
+use Rattle.log_line.specs.declared.Accepted.{Accepted}
 use Rattle.sat_solver_log.specs.Answers.{log_by, Parses}
 use Rattle.formula.specs.Cursors.{opened_kind, opened, answer_from, step_of, Steps}
 use Rattle.formula.specs.declared.Cursor.{Cursor}
@@ -18,6 +20,10 @@ use Rattle.numbers.proofs.Named.{named}
 use Rattle.answer_words.specs.Words.{opening_kind, opening_words, next_kind, next_words, log_kind, log_words}
 use Rattle.cursor_words.specs.Cursors.{held_cursor, Holds}
 use Rattle.stepwise.specs.Calls.{Opens, Nexts, Logs}
+
+-- The mode of a log by a number that was brought down to a byte.
+pub log_named : (m : ℕ) {m' : ℕ} → m' ≡ min m 255 → kind_of log_format m' ≡ kind_of log_format m
+log_named m em = named log_format m refl em
 
 -- A text opened by numbers that were brought down to bytes.
 pub opens : (f m : ℕ) (s : List ℕ) {f' m' : ℕ} (o : Opened) {after said : List ℕ} {r : ℕ} → f' ≡ min f 255 → m' ≡ min m 255 → o ≡ opened f' m' s
@@ -43,7 +49,7 @@ nexts s before old new c step {after} e p h w k =
     }
 
 -- A log by a number that was brought down to a byte.
-pub logs : (m : ℕ) (s : List ℕ) (old new : List ℤ) {m' : ℕ} (l : Log) {said : List ℕ} {r : ℕ} → m' ≡ min m 255 → Parses (log_by (kind_of log_format m') s (length old)) old new l
+pub logs : (m : ℕ) (s : List ℕ) (old new : List ℤ) {m' : ℕ} (l : Result Accepted Stopped) {said : List ℕ} {r : ℕ} → m' ≡ min m 255 → Parses (log_by (kind_of log_format m') s (length old)) old new l
     → said ≡ log_words l → r ≡ log_kind l → Logs m s old new said r
 logs m s old new l em p w k =
     let q = ap (λ x. log_by x s (length old)) (named log_format m refl em) in

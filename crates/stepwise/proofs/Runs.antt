@@ -5,7 +5,10 @@ use mathlib.Core.Path.{◌≡◌, refl, ap, sym, subst, ◌∙◌}
 use native.Mathlib.Omega.{arith}
 use lib.ListN.{length, take, get_or}
 use lib.IntN.{ℤ}
-use Rattle.dimacs.specs.Names.{Reason, call_refusal, log_format, kind_of}
+use Rattle.std.specs.Prelude.{None, Some, Result, Ok, Err}
+use Rattle.dimacs.specs.Names.{call_refusal, log_format, kind_of}
+use Rattle.dimacs.specs.declared.Reason.{Reason}
+use Rattle.dimacs.specs.declared.Refusal.{Refusal}
 use Rattle.dimacs.specs.Lined.{lined}
 use Rattle.dimacs.specs.Buffers.{laid}
 use Rattle.dimacs.specs.Header.{opening_of}
@@ -20,9 +23,7 @@ use Rattle.dimacs.proofs.Buffer.{laid_first}
 use Rattle.dimacs.proofs.Loops.{and_on}
 use Rattle.dimacs.proofs.Clauses.{to_come}
 use Rattle.dimacs.proofs.Texts.{answers_step}
-use Rattle.clause.specs.Answers.{next_of, left_by}
-use Rattle.clause.specs.declared.Next.{Next}
-use Rattle.clause.specs.declared.Next.TheVariants as next
+use Rattle.clause.specs.Answers.{Next, next_of, left_by}
 use Rattle.formula.specs.Cursors.{opened_as, unknown, opened_kind, opened, cursor_after, answer_from, step_of}
 use Rattle.formula.specs.Whole.{call_by, call, calls, call_of}
 use Rattle.formula.specs.declared.Cursor.{Cursor}
@@ -112,7 +113,7 @@ run_calls s room c w l e (stops _ w' said old new r h n other) =
     go p (def.refused q so) h₁ h₂ h₃ = same h₁ h₂ h₃ refl
 
 -- What a host hears that opens a text by the numbers of a format and a mode is how the text opens by the definition.
-pub opening_is_answer : (f m : ℕ) (format : Format) (mode : Mode) (s : List ℕ) (room : ℕ) {w said : List ℕ} {r : ℕ} → kind_of f m ≡ Clauses format mode → Opens f m s w said r
+pub opening_is_answer : (f m : ℕ) (format : Format) (mode : Mode) (s : List ℕ) (room : ℕ) {w said : List ℕ} {r : ℕ} → kind_of f m ≡ Some (Clauses format mode) → Opens f m s w said r
     → let o = (texts.text format mode room s).opened in (r ≡ opening_kind o) × (said ≡ opening_words o)
 unfolding opened_as texts.text
 opening_is_answer f m format mode s room k o =
@@ -120,13 +121,13 @@ opening_is_answer f m format mode s room k o =
     let q : (opened f m s).opening ≡ (texts.text format mode room s).opened = ap (λ x. (opened_kind x s).opening) k ∙ go read (opening_of read format) in
     (o.kind ∙ ap opening_kind q, o.words ∙ ap opening_words q)
   where
-    go : (read : List ℕ) (x : Opening) → x ≡ (texts.text_by format mode.rigor room read x).opened
-    go read (opening.Header h at) = refl
-    go read (opening.NoHeader at) = refl
-    go read (opening.Refused q) = refl
+    go : (read : List ℕ) (x : Result Opening Refusal) → x ≡ (texts.text_by format mode.rigor room read x).opened
+    go read (Ok (opening.Header h at)) = refl
+    go read (Ok (opening.NoHeader at)) = refl
+    go read (Err q) = refl
 
 -- A host that opens a text by the numbers of a format and a mode, and calls on, hears the definition's answers, or the header's refusal.
-pub heard_are_answers : (f m : ℕ) (format : Format) (mode : Mode) (s : List ℕ) (room : ℕ) {w said : List ℕ} {r : ℕ} {l : List Heard} → kind_of f m ≡ Clauses format mode
+pub heard_are_answers : (f m : ℕ) (format : Format) (mode : Mode) (s : List ℕ) (room : ℕ) {w said : List ℕ} {r : ℕ} {l : List Heard} → kind_of f m ≡ Some (Clauses format mode)
     → Opens f m s w said r → Run s room w l → l ≡ map heard_of (calls_of (texts.text format mode room s).opened (texts.text format mode room s).answers)
 heard_are_answers f m format mode s room {w} {said} {r} {l} k o run =
     let q : opened f m s ≡ opened_as format mode s = ap (λ x. opened_kind x s) k in
@@ -134,7 +135,7 @@ heard_are_answers f m format mode s room {w} {said} {r} {l} k o run =
 
 -- Where words hold the cursor that repeats refusal 26, as zeros do and those of a text that was opened by unknown numbers, that refusal is heard, and nothing else.
 pub unknown_heard : (s : List ℕ) (room : ℕ) {w : List ℕ} {l : List Heard} → held_cursor w ≡ unknown.cursor → Run s room w l
-    → l ≡ heard_of (call_of (def.refused (call_refusal Reason.format_or_mode_unknown 0) [])) ∷ []
+    → l ≡ heard_of (call_of (def.refused (call_refusal Reason.FormatOrModeUnknown 0) [])) ∷ []
 unfolding texts.answer_at
 unknown_heard s room {w} {l} e run = run_calls s room unknown.cursor w l e run ∙ ap (map heard_of) (calls_step s room unknown.cursor)
 
@@ -160,6 +161,6 @@ clause_lowers {s} {before} {old = old} is n =
     to = (step_of s (length old) (held_cursor before)).cursor
 
     go : (x : Next) → 1 ≡ next_kind x → CallLeads s (length old) (held_cursor before) to x → to_come s to.progress.place < to_come s (held_cursor before).progress.place
-    go (next.Clause extra k) e h = h.1
-    go next.Ended e h = absurd (omega arith)
-    go (next.Refused q k) e h = absurd (omega arith)
+    go (Ok (Some x)) e h = h.1
+    go (Ok None) e h = absurd (omega arith)
+    go (Err x) e h = absurd (omega arith)

@@ -1,5 +1,5 @@
 -- What each call over words answers, and what it leaves in the words and the buffer.
-use Rattle.std.specs.Prelude.{ℕ, List, [], ◌≡◌, length, ℤ}
+use Rattle.std.specs.Prelude.{ℕ, List, [], ◌≡◌, length, ℤ, Option, None, Some}
 use Rattle.dimacs.specs.Names.{log_format, kind_of}
 use Rattle.dimacs.specs.Lined.{lined}
 use Rattle.dimacs.specs.Tokens.{stopped_at}
@@ -33,7 +33,7 @@ pub record Logs (m : ℕ) (s : List ℕ) (old new : List ℤ) (said : List ℕ) 
   pub buffer : new ≡ laid (log_leaves (log_by (kind_of log_format m) s (length old))) old
 
 -- The word at a place where a reader stopped, by the line rule of the mode that is named; none where none is.
-abbrev pub word_by : Kind → List ℕ → ℕ → List ℕ
-word_by kind.Unknown s at = []
-word_by (kind.Clauses f m) s at = []
-word_by (kind.Log m) s at = stopped_at (lined m.ends s) at
+abbrev pub word_by : Option Kind → List ℕ → ℕ → List ℕ
+word_by None s at = []
+word_by (Some (kind.Clauses f m)) s at = []
+word_by (Some (kind.Log m)) s at = stopped_at (lined m.ends s) at

@@ -26,12 +26,10 @@ pub fn latchtwig_open(
 ) -> u32
     ensures { Opens format mode text.now cursor.new answer.new result }
 {
-    let opened = formula::open(text, narrowed(format as u64), narrowed(mode as u64));
-    let opening = opened.opening;
-    let from = opened.cursor;
-    *cursor = cursor_words(from);
-    *answer = opening_words(opening);
-    opening_kind(opening)
+    let opened = formula::open(text, narrowed(u64::from(format)), narrowed(u64::from(mode)));
+    *cursor = cursor_words(opened.cursor);
+    *answer = opening_words(opened.opening);
+    opening_kind(opened.opening)
 }
 
 // The next answer from the cursor that the words hold: 0 for the end, 1 for a clause, 2 for a refusal. The array holds the refusal's number, place, line and column, the count of literals that
@@ -44,13 +42,10 @@ pub fn latchtwig_next(
 ) -> u32
     ensures { Nexts text.now cursor.old cursor.new lits.old lits.new answer.new result }
 {
-    let words = *cursor;
-    let step = held_cursor(words).next_clause(text, lits);
-    let said = step.answer;
-    let after = step.cursor;
-    *cursor = cursor_words(after);
-    *answer = next_words(said);
-    next_kind(said)
+    let step = held_cursor(*cursor).next_clause(text, lits);
+    *cursor = cursor_words(step.cursor);
+    *answer = next_words(step.answer);
+    next_kind(step.answer)
 }
 
 // The log by the number of a mode: 1 for a verdict, 2 for a refusal. The array holds the refusal's number, place, line and column, the count of literals that the buffer holds, and the
@@ -58,22 +53,18 @@ pub fn latchtwig_next(
 pub fn latchtwig_log(mode: u32, text: &[u8], lits: &mut [i32], answer: &mut [u64; LOG_WORDS]) -> u32
     ensures { Logs mode text.now lits.old lits.new answer.new result }
 {
-    let log = sat_solver_log::parse_log(text, narrowed(mode as u64), lits);
+    let log = sat_solver_log::parse_log(text, narrowed(u64::from(mode)), lits);
     *answer = log_words(log);
     log_kind(log)
 }
 
 // How long the word is at the place of a refusal, by the number of the mode in which the text was read: 0 at a line end or the end of the text, and where no mode is named.
+#[tactic(auto, using(crate::proofs::Parts::log_named))]
 pub fn latchtwig_word(mode: u32, text: &[u8], place: u64) -> u64
     ensures { result ≡ length (word_by (kind_of log_format mode) text.now place) }
 {
-    match kind_of(LOG_FORMAT, narrowed(mode as u64)) {
-        Kind::Unknown => 0,
-        Kind::Clauses(_, _) => 0,
-        Kind::Log(named) => {
-            let ends = named.ends;
-            let stopped = token::stopped_at(text, ends, place as usize);
-            stopped.len() as u64
-        }
+    match kind_of(LOG_FORMAT, narrowed(u64::from(mode))) {
+        Some(Kind::Log(named)) => token::stopped_at(text, named.ends, place as usize).len() as u64,
+        Some(Kind::Clauses(_, _)) | None => 0,
     }
 }
