@@ -1,7 +1,8 @@
 -- The digits at a place, from what a loop has read of them; and what they tell. Assumes nothing.
-use Prim.Native.Nat.{ℕ, ◌+◌, ◌-◌, ◌*◌, ◌/◌, ◌%◌, ◌^◌, ◌≤◌, ◌<◌}
+use Prim.Native.Nat.{ℕ, ◌+◌, ◌-◌, ◌*◌, ◌/◌, ◌%◌, ◌^◌, ◌≤◌, ◌<◌, max}
+use mathlib.Core.Bool.{true, cond}
 use mathlib.Core.List.{List}
-use mathlib.Core.Path.{◌≡◌, refl, sym, ◌∙◌, subst}
+use mathlib.Core.Path.{◌≡◌, refl, ap, sym, ◌∙◌}
 use native.Mathlib.Nat.{pow-suc, pow-le-pow_right}
 use native.Mathlib.Numerals.{add-one}
 use native.Mathlib.Omega.{arith}
@@ -13,12 +14,12 @@ use Rattle.dimacs.specs.Bytes.{is_digit}
 use Rattle.dimacs.specs.Names.{largest}
 use Rattle.dimacs.specs.Tokens.{past, decimal, word_ends, uint_at}
 use Rattle.dimacs.proofs.Bytes.{is_digit_lem, below_digit, above_digit}
-use Rattle.dimacs.proofs.Tests.{tested, chosen}
-use Rattle.dimacs.proofs.Past.{past_more}
-use Rattle.dimacs.proofs.Numbers.{decimal_on, decimal_more, All, none_there, none_past_end, digits_stand, unsigned_none, unsigned_joined, unsigned_found, by_none, by_value}
+use Rattle.dimacs.proofs.Tests.{tested}
+use Rattle.dimacs.proofs.Past.{past_more, past_end}
+use Rattle.dimacs.proofs.Numbers.{decimal_on, decimal_more, All, none_there, none_past_end, unsigned_none, unsigned_joined, unsigned_found, by_none, by_value}
 use Rattle.numeral.specs.Parts.{DigitOf, Read, digits_from, written_by}
 use Rattle.numeral.specs.declared.Digits.{Digits}
-use Rattle.numeral.specs.declared.Digits.TheVariants as digits
+use Rattle.std.specs.Prelude.{Some, None}
 
 -- A byte against that of `0`, bit by bit: no digit differs from it by more than 9, and no other byte by less than 10.
 module _ (b : ℕ) where
@@ -38,6 +39,17 @@ module _ (b : ℕ) where
             (λ low. below_digit b (leb-false 48 b low));
       }
 
+-- A number up to 9 says that a digit stands.
+pub digit_there : {b d : ℕ} → DigitOf b d → d ≤ 9 → is_digit b ≡ true
+digit_there {b} o h = let is = o.is h in is_digit_lem b (omega arith) (omega arith)
+
+-- The answer, by its parts.
+abbrev written : ℕ → ℕ → Digits
+written v e = record { value = Some v; end = e }
+
+abbrev above : ℕ → Digits
+above e = record { value = None; end = e }
+
 -- Where a loop over digits begins, none is read.
 pub read_none : (w : ℕ) (s : List ℕ) (at : ℕ) → Read w s at at w
 read_none w s at = record { ends = refl; value = refl }
@@ -51,8 +63,14 @@ module _ {w : ℕ} {s : List ℕ} {at i v : ℕ} (r : Read w s at i v) where
   unfolding digits_from
   digits_on = rw (r.ends, r.value)
 
-  pub digits_end : length s ≤ i → All w s at i v
-  digits_end h = on_from (none_past_end v s i h)
+  -- At the text's end, or where the loop began.
+  pub digits_end : at ≤ i → (at ≤ length s → i ≤ length s) → length s ≤ i → All w s at (max at (length s)) v
+  digits_end on inside h =
+      let there = past_end is_digit s i h in
+      let ends : past is_digit s at ≡ max at (length s) =
+      tested (leb at (length s)) (λ t. let e = inside (leb-true at (length s) t) in omega (arith, r.ends))
+      (λ t. omega (arith, r.ends, past_end is_digit s at (omega (arith, leb-false at (length s) t)))) in
+      record { ends = ends; value = sym r.value ∙ (none_past_end v s i h).value }
 
   -- A loop over digits, by the digit at its place.
   module _ {d : ℕ} (h : i < length s) (b : DigitOf (get_or s i 0) d) where
@@ -71,7 +89,7 @@ module _ {w : ℕ} {s : List ℕ} {at i v : ℕ} (r : Read w s at i v) where
     digit_stop k = on_from (none_there v s i h (b.no k))
 
     -- The number is above whatever the digits up to this one are above.
-    pub digit_above : d ≤ 9 → largest < v * 10 + d → (e : ℕ) → e ≡ past is_digit s i → digits.Above e ≡ digits_from w s at
+    pub digit_above : d ≤ 9 → largest < v * 10 + d → (e : ℕ) → e ≡ past is_digit s i → above e ≡ digits_from w s at
     unfolding digits_from
     digit_above k l e is = rw (is, r.ends, lt-leb (decimal w (drop at s)) largest (omega (arith, decimal_on (v * 10 + d) (drop (i + 1) s), one_more k)))
 
@@ -86,7 +104,7 @@ pub few_more : (k : ℕ) {v d : ℕ} → v < 10 ^ k → d ≤ 9 → v * 10 + d <
 few_more k h l = rw add-one (omega (arith, pow-suc 10 k))
 
 -- What a loop answers where it ends.
-pub digits_value : {w : ℕ} {s : List ℕ} {at e v : ℕ} → All w s at e v → v ≤ largest → digits.Value v e ≡ digits_from w s at
+pub digits_value : {w : ℕ} {s : List ℕ} {at e v : ℕ} → All w s at e v → v ≤ largest → written v e ≡ digits_from w s at
 unfolding digits_from
 digits_value {v} a h = rw (a.value, le-leb v largest h, a.ends)
 
@@ -97,21 +115,25 @@ written_is {s} {at} {e} limit a h =
     tested (eqb e at) (λ t. rw t (by_none limit (unsigned_none a (eqb-true e at t))))
     (λ t. tested (word_ends s e) (λ k. rw (t, k) (by_value limit (unsigned_found a (eqb-false e at t) k) h _ refl)) (λ k. rw (t, k) (by_none limit (unsigned_joined a k))))
 
--- What the answer tells.
-abbrev pub DigitsTold : List ℕ → ℕ → Digits → Type 0
-DigitsTold s at (digits.Value v e) = All 0 s at e v × (v ≤ largest)
-DigitsTold s at (digits.Above e) = All 0 s at e (decimal 0 (drop at s)) × (largest < decimal 0 (drop at s))
+-- What the answer tells: where the digits end, and what they write, or that it is above 64 bits.
+module _ (s : List ℕ) (at : ℕ) (d : Digits) (is : d ≡ digits_from 0 s at) where
+  pub digits_told : All 0 s at d.end (decimal 0 (drop at s))
+  unfolding digits_from
+  digits_told = record { ends = sym (ap (λ (x : Digits). x.end) is); value = refl }
 
-digits_tell : (s : List ℕ) (at : ℕ) → DigitsTold s at (digits_from 0 s at)
-unfolding digits_from
-digits_tell s at =
-    let n = decimal 0 (drop at s) in
-    chosen (DigitsTold s at) (leb n largest) (λ e. (record { ends = refl; value = refl }, leb-true n largest e))
-    (λ e. (record { ends = refl; value = refl }, leb-false n largest e))
+  value_is : d.value ≡ cond (leb (decimal 0 (drop at s)) largest) (Some (decimal 0 (drop at s))) None
+  unfolding digits_from
+  value_is = ap (λ (x : Digits). x.value) is
 
-pub digits_told : (s : List ℕ) (at : ℕ) {d r : Digits} → d ≡ r → d ≡ digits_from 0 s at → DigitsTold s at r
-digits_told s at e h = subst (DigitsTold s at) (sym h ∙ e) (digits_tell s at)
+  -- A number that they write.
+  pub value_told : {v : ℕ} → d.value ≡ Some v → All 0 s at d.end v × (v ≤ largest)
+  value_told {v} e =
+      let n = decimal 0 (drop at s) in
+      tested (leb n largest)
+      (λ t. let same : Some v ≡ Some n = sym e ∙ (rw t at value_is) in let h : v ≡ n = cc in (rw (sym h) at digits_told, omega (arith, leb-true n largest t)))
+      (λ t. let none : Some v ≡ None = sym e ∙ (rw t at value_is) in cc)
 
--- Digits above 64 bits stand.
-pub above_stands : {s : List ℕ} {at e : ℕ} → DigitsTold s at (digits.Above e) → e ≡ at → ⊥
-above_stands {s} {at} {e} t h = digits_stand s at (omega (arith, t.1)) (t.0.ends ∙ h)
+  pub above_told : d.value ≡ None → largest < decimal 0 (drop at s)
+  above_told e =
+      let n = decimal 0 (drop at s) in
+      tested (leb n largest) (λ t. let some : None ≡ Some n = sym e ∙ (rw t at value_is) in cc) (λ t. leb-false n largest t)

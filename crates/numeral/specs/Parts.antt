@@ -1,5 +1,5 @@
 -- The parts of a number as the code takes them: a digit, a run of them, the number they write, and minus its limit.
-use Rattle.std.specs.Prelude.{ℕ, ◌+◌, ◌≤◌, ◌<◌, min, false, cond, List, ◌≡◌, leb, ℤ, pos, neg_ℤ, drop}
+use Rattle.std.specs.Prelude.{ℕ, ◌+◌, ◌≤◌, ◌<◌, min, false, cond, Some, None, List, ◌≡◌, leb, ℤ, pos, neg_ℤ, drop}
 use Prim.Native.Char.{code}
 use Rattle.dimacs.specs.Bytes.{is_digit}
 use Rattle.dimacs.specs.Names.{ceiling, largest}
@@ -7,7 +7,6 @@ use Rattle.dimacs.specs.Tokens.{past, decimal, unmoved, word_ends, blanks}
 use Rattle.dimacs.specs.declared.Uint.{Uint}
 use Rattle.dimacs.specs.declared.Uint.TheVariants as uint
 use Rattle.numeral.specs.declared.Digits.{Digits}
-use Rattle.numeral.specs.declared.Digits.TheVariants.{Value, Above}
 
 -- A byte as a digit: a number up to 9 is the digit that it writes, and a number above 9 says that it writes none.
 pub record DigitOf (b d : ℕ) : Type 0 where
@@ -23,7 +22,7 @@ pub record Read (w : ℕ) (s : List ℕ) (at i v : ℕ) : Type 0 where
 unfoldable pub digits_from : ℕ → List ℕ → ℕ → Digits
 digits_from v s at =
     let n = decimal v (drop at s) in
-    cond (leb n largest) (Value n (past is_digit s at)) (Above (past is_digit s at))
+    record { value = cond (leb n largest) (Some n) None; end = past is_digit s at }
 
 -- The number at a place, from where its digits end and what they write.
 unfoldable pub written_by : List ℕ → ℕ → ℕ → ℕ → Uint

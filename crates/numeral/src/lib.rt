@@ -16,15 +16,15 @@ const TENTH: u64 = 1844674407370955161;
 // So many digits write a number below the ceiling. LLVM makes no loop of so many rounds, but one round after another; of nine it makes a loop.
 const FEW: usize = 8;
 
-// What a run of digits writes, and where it ends.
-#[derive(Clone, Copy)]
-pub enum Digits {
-    Value { value: u64, end: usize },
-    // It is above 64 bits.
-    Above { end: usize },
+// What a run of digits writes, or nothing where that is above 64 bits, and where the run ends.
+#[derive(Clone, Copy, Debug, PartialEq, Eq)]
+pub struct Digits {
+    pub value: Option<u64>,
+    pub end: usize,
 }
 
 // The digit that a byte is, or a number above 9 where it is none: the codes of the digits differ from that of `0` in their last four bits alone.
+#[tactic(auto, using(crate::proofs::Runs::digit_is))]
 fn digit(b: u8) -> u8
     ensures { DigitOf b result }
 {
@@ -32,21 +32,19 @@ fn digit(b: u8) -> u8
 }
 
 // Past the run of digits.
+#[tactic(auto, using(dimacs::proofs::Past::past_more, dimacs::proofs::Past::past_stop, dimacs::proofs::Past::past_end, crate::proofs::Runs::digit_there))]
 fn skip_digits(text: &[u8], at: usize) -> usize
     ensures { result ≡ past is_digit text.now at }
 {
-    let mut i = at;
-    while i < text.len() {
-        let b = text[i];
-        if b < b'0' {
-            return i;
-        }
-        if b'9' < b {
-            return i;
-        }
-        i += 1;
+    if token::eof(text, at) {
+        return at;
     }
-    i
+    for i in at..text.len() {
+        if 9 < digit(text[i]) {
+            return i;
+        }
+    }
+    text.len()
 }
 
 // Whether a value with one digit more is above 64 bits.
@@ -64,55 +62,54 @@ fn overflows(v: u64, d: u64) -> bool
 }
 
 // The run of digits at a place, which may be empty, after digits that write a value.
+#[tactic(auto, using(crate::proofs::Runs::read_none))]
 fn ascii_digits_multi(text: &[u8], at: usize, value: u64) -> Digits
     ensures { result ≡ digits_from value text.now at }
 {
     let mut v = value;
-    let mut i = at;
-    while i < text.len() {
+    for i in at..text.len() {
         let d = digit(text[i]) as u64;
         if 9 < d {
-            return Digits::Value { value: v, end: i };
+            return Digits {
+                value: Some(v),
+                end: i,
+            };
         }
         if overflows(v, d) {
-            return Digits::Above {
+            return Digits {
+                value: None,
                 end: skip_digits(text, i),
             };
         }
         v = v * 10 + d;
-        i += 1;
     }
-    Digits::Value { value: v, end: i }
+    Digits {
+        value: Some(v),
+        end: at.max(text.len()),
+    }
 }
 
 // A number up to a limit, read on from where some of its digits are read.
+#[tactic(auto, using(crate::proofs::Runs::digits_on, crate::proofs::Runs::digits_told, crate::proofs::Runs::value_told, dimacs::proofs::Numbers::unsigned_none, dimacs::proofs::Numbers::unsigned_joined, dimacs::proofs::Numbers::unsigned_found, dimacs::proofs::Numbers::by_none, dimacs::proofs::Numbers::by_value, dimacs::proofs::Numbers::by_too_big), unfolding(dimacs::specs::Tokens::uint_at))]
 fn uint_on(text: &[u8], at: usize, from: usize, value: u64, limit: u64) -> Uint
     requires { Read 0 text.now at from value }
     ensures { result ≡ uint_at text.now limit at }
 {
-    match ascii_digits_multi(text, from, value) {
-        Digits::Value { value, end } => {
-            if end == at {
-                return Uint::Missing;
-            }
-            if token::is_end_of_word(text, end) {
-                if limit < value {
-                    return Uint::TooBig;
-                }
-                return Uint::Value(value, token::skip_whitespace(text, end));
-            }
-            Uint::Missing
-        }
-        Digits::Above { end } => {
-            if token::is_end_of_word(text, end) {
-                return Uint::TooBig;
-            }
-            Uint::Missing
-        }
+    let Digits { value, end } = ascii_digits_multi(text, from, value);
+    if end == at {
+        return Uint::Missing;
+    }
+    if !token::is_end_of_word(text, end) {
+        return Uint::Missing;
+    }
+    match value {
+        Some(value) if value <= limit => Uint::Value(value, token::skip_whitespace(text, end)),
+        _ => Uint::TooBig,
     }
 }
 
 // A count or a weight, up to a limit.
+#[tactic(auto, using(crate::proofs::Runs::read_none))]
 pub fn uint(text: &[u8], at: usize, limit: u64) -> Uint
     ensures { result ≡ uint_at text.now limit at }
 {
@@ -120,39 +117,24 @@ pub fn uint(text: &[u8], at: usize, limit: u64) -> Uint
 }
 
 // A group in braces, up to a limit.
+#[tactic(auto, using(crate::proofs::Runs::digits_told, crate::proofs::Runs::value_told, dimacs::proofs::Numbers::braced_no, dimacs::proofs::Numbers::braced_none, dimacs::proofs::Numbers::braced_open, dimacs::proofs::Numbers::braced_found, dimacs::proofs::Numbers::by_none, dimacs::proofs::Numbers::by_value, dimacs::proofs::Numbers::by_too_big), unfolding(dimacs::specs::Tokens::braced_uint_at))]
 pub fn braced_uint(text: &[u8], at: usize, limit: u64) -> Uint
     ensures { result ≡ braced_uint_at text.now limit at }
 {
-    if text.len() <= at {
+    let Some(b'{') = text.get(at) else {
         return Uint::Missing;
-    }
-    if text[at] != b'{' {
-        return Uint::Missing;
-    }
+    };
     let from = at + 1;
-    match ascii_digits_multi(text, from, 0) {
-        Digits::Value { value, end } => {
-            if end == from {
-                return Uint::Missing;
-            }
-            if end < text.len() {
-                if text[end] == b'}' {
-                    if value > limit {
-                        return Uint::TooBig;
-                    }
-                    return Uint::Value(value, token::skip_whitespace(text, end + 1));
-                }
-            }
-            Uint::Missing
-        }
-        Digits::Above { end } => {
-            if end < text.len() {
-                if text[end] == b'}' {
-                    return Uint::TooBig;
-                }
-            }
-            Uint::Missing
-        }
+    let Digits { value, end } = ascii_digits_multi(text, from, 0);
+    if end == from {
+        return Uint::Missing;
+    }
+    let Some(b'}') = text.get(end) else {
+        return Uint::Missing;
+    };
+    match value {
+        Some(value) if value <= limit => Uint::Value(value, token::skip_whitespace(text, end + 1)),
+        _ => Uint::TooBig,
     }
 }
 
@@ -160,35 +142,22 @@ pub fn braced_uint(text: &[u8], at: usize, limit: u64) -> Uint
 fn floor_of(limit: u32) -> i32
     ensures { result ≡ floor_of limit }
 {
-    if CEILING < limit {
-        return 0 - (CEILING as i32);
-    }
-    0 - (limit as i32)
+    -(limit.min(CEILING) as i32)
 }
 
 // Past one minus.
+#[tactic(auto, unfolding(dimacs::specs::Tokens::minus))]
 fn past_minus(text: &[u8], at: usize) -> usize
     ensures { result ≡ minus text.now at }
 {
-    if at < text.len() {
-        if text[at] == b'-' {
-            return at + 1;
-        }
+    match text.get(at) {
+        Some(b'-') => at + 1,
+        _ => at,
     }
-    at
-}
-
-// How many bytes the text has from a place on.
-fn left(text: &[u8], at: usize) -> usize
-    ensures { result ≡ length text.now - at }
-{
-    if text.len() < at {
-        return 0;
-    }
-    text.len() - at
 }
 
 // The number at a place whose digits end at another and write a value. Most often a space ends it, which is asked first.
+#[tactic(auto, using(dimacs::proofs::Words::word_ends_at, dimacs::proofs::Past::past_more), unfolding(crate::specs::Parts::written_by))]
 fn written(text: &[u8], at: usize, end: usize, value: u32) -> Uint
     requires { end < length text.now }
     ensures { result ≡ written_by text.now at end value }
@@ -206,23 +175,21 @@ fn written(text: &[u8], at: usize, end: usize, value: u32) -> Uint
 }
 
 // The size of a literal. Its first digits need no test of their size; after them, and near the text's end, it is read as a count is.
-// Where the loop ends is `stop`, and not `i`: of `i` LLVM would keep a test in each round.
+#[tactic(auto, using(crate::proofs::Runs::read_none, crate::proofs::Runs::few_none))]
 fn size(text: &[u8], at: usize) -> Uint
     ensures { result ≡ uint_at text.now ceiling at }
 {
-    if left(text, at) < FEW {
+    if text.len().saturating_sub(at) < FEW {
         return uint(text, at, CEILING as u64);
     }
     let stop = at + FEW;
     let mut v: u32 = 0;
-    let mut i = at;
-    while i < stop {
+    for i in at..stop {
         let d = digit(text[i]) as u32;
         if 9 < d {
             return written(text, at, i, v);
         }
         v = v * 10 + d;
-        i += 1;
     }
     uint_on(text, at, stop, v as u64, CEILING as u64)
 }
@@ -240,15 +207,12 @@ pub fn int(text: &[u8], at: usize, limit: u32) -> Int
             if n == 0 {
                 return Int::Zero(next);
             }
-            let v = 0 - (n as i32);
+            let v = -(n as i32);
             let floor = floor_of(limit);
             if v < floor {
                 return Int::TooBig;
             }
-            let mut w = v;
-            if from == at {
-                w = 0 - v;
-            }
+            let w = if from == at { -v } else { v };
             Int::Literal(w, next)
         }
     }

@@ -51,14 +51,12 @@ module _ {s : List ℕ} {at i : ℕ} (w : InWord s at i) where
         so = past_more is_not_stop s i h (not_stop_is s i h e) ∙ w.so;
       }
 
-  pub past_word_longest : longest_word ≤ i - at → PastWord s at i
-  past_word_longest k = past_word_by s at i w.on w.inside (omega (arith, w.on, w.short, w.so, past_spans s i is_not_stop))
-
   pub past_word_stop : i < length s → word_ends s i ≡ true → PastWord s at i
   past_word_stop h e = past_word_by s at i w.on w.inside (omega (arith, w.on, w.short, w.so, past_stop is_not_stop s i h (not_stop_is s i h e)))
 
-  pub past_word_end : length s ≤ i → PastWord s at i
-  past_word_end h = past_word_by s at i w.on w.inside (omega (arith, w.on, w.short, w.so, past_end is_not_stop s i h))
+  -- At the text's end, or as far as the longest word goes.
+  pub past_word_there : {e : ℕ} → e ≡ i → i ≡ min (length s) (at + longest_word) → PastWord s at e
+  past_word_there {e} h k = past_word_by s at e (omega (arith, w.on)) (omega arith) (omega (arith, w.on, w.short, w.inside, w.so, past_spans s i is_not_stop, past_end is_not_stop s i))
 
 -- Bytes that are the word in a text as it is read. Nothing is, at a line end and at the end of the text, wherever it is taken from.
 module _ (rule : Ends) (s : List ℕ) (at : ℕ) where

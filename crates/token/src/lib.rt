@@ -19,54 +19,43 @@ pub fn eof(text: &[u8], at: usize) -> bool
 }
 
 // Whether a word or a number ends at a place.
+#[tactic(auto, unfolding(dimacs::specs::Tokens::word_ends))]
 pub fn is_end_of_word(text: &[u8], at: usize) -> bool
     ensures { result ≡ word_ends text.now at }
 {
-    if at < text.len() {
-        match text[at] {
-            b'\n' | b' ' => true,
-            b'\t' | b'\r' => true,
-            _ => false,
-        }
-    } else {
-        true
-    }
+    eof(text, at) || matches!(text[at], b'\n' | b' ' | b'\t' | b'\r')
 }
 
 // Past the run of tabs and spaces.
+#[tactic(auto, using(dimacs::proofs::Past::past_more, dimacs::proofs::Past::past_stop, dimacs::proofs::Past::past_end))]
 pub fn skip_whitespace(text: &[u8], at: usize) -> usize
     ensures { result ≡ blanks text.now at }
 {
-    let mut i = at;
-    while i < text.len() {
+    if eof(text, at) {
+        return at;
+    }
+    for i in at..text.len() {
         match text[i] {
-            b'\t' | b' ' => i += 1,
+            b'\t' | b' ' => {}
             _ => return i,
         }
     }
-    i
+    text.len()
 }
 
 // Past the bytes of `w`, whatever follows them.
+#[tactic(auto, using(crate::proofs::Begins::starts_begins, crate::proofs::Begins::begins_beyond), unfolding(dimacs::specs::Tokens::fixed))]
 pub fn fixed(text: &[u8], at: usize, w: &[u8]) -> usize
     ensures { result ≡ fixed text.now w.now at }
 {
-    let mut k = 0;
-    let mut i = at;
-    while k < w.len() {
-        if text.len() <= i {
-            return at;
-        }
-        if text[i] != w[k] {
-            return at;
-        }
-        k += 1;
-        i += 1;
+    match text.get(at..) {
+        Some(rest) if rest.starts_with(w) => at + w.len(),
+        _ => at,
     }
-    i
 }
 
 // Past the word `w` and the blanks after it.
+#[tactic(auto, unfolding(dimacs::specs::Tokens::word))]
 pub fn word(text: &[u8], at: usize, w: &[u8]) -> usize
     ensures { result ≡ word text.now w.now at }
 {
@@ -91,57 +80,50 @@ fn lone_return(ends: Ends) -> usize
 }
 
 // Past the next line end, or to the end of the text.
+#[tactic(auto, using(crate::proofs::Returns::skip_lf, crate::proofs::Returns::skip_on, crate::proofs::Returns::skip_crlf, dimacs::proofs::Lines::next_line_end, dimacs::proofs::Lined::ended_lined))]
 pub fn interactive_skip_line(text: &[u8], ends: Ends, at: usize) -> usize
     ensures { result ≡ next_line (lined ends text.now) at }
 {
+    if eof(text, at) {
+        return at;
+    }
     let also = also_ends(ends);
-    let mut i = at;
-    while i < text.len() {
+    for i in at..text.len() {
         let b = text[i];
-        let next = i + 1;
         if b == b'\n' {
-            return next;
+            return i + 1;
         }
         if b == also {
-            if next < text.len() {
-                if text[next] == b'\n' {
-                    return i + 2;
-                }
-            }
-            return next;
+            return match text.get(i + 1) {
+                Some(b'\n') => i + 2,
+                _ => i + 1,
+            };
         }
-        i = next;
     }
-    i
+    text.len()
 }
 
 // Past a line end.
+#[tactic(auto, using(crate::proofs::Returns::at_most_one, crate::proofs::Returns::ends_lf, crate::proofs::Returns::ends_crlf, crate::proofs::Returns::ends_return, crate::proofs::Returns::ends_no))]
 pub fn interactive_newline(text: &[u8], ends: Ends, at: usize) -> usize
     ensures { result ≡ line_end (lined ends text.now) at }
 {
-    if at < text.len() {
-        let b = text[at];
-        if b == b'\n' {
-            return at + 1;
-        }
-        if b == b'\r' {
-            let next = at + 1;
-            if next < text.len() {
-                if text[next] == b'\n' {
-                    return at + 2;
-                }
-            }
-            return at + lone_return(ends);
-        }
+    match text.get(at) {
+        Some(b'\n') => at + 1,
+        Some(b'\r') => match text.get(at + 1) {
+            Some(b'\n') => at + 2,
+            _ => at + lone_return(ends),
+        },
+        _ => at,
     }
-    at
 }
 
 // Past a line end, or the end of the text.
+#[tactic(auto, using(dimacs::proofs::LinedTokens::end_lined), unfolding(dimacs::specs::Tokens::end_of_line))]
 pub fn interactive_end_of_line(text: &[u8], ends: Ends, at: usize) -> Option<usize>
     ensures { result ≡ end_of_line (lined ends text.now) at }
 {
-    if text.len() <= at {
+    if eof(text, at) {
         return Some(at);
     }
     let e = interactive_newline(text, ends, at);
@@ -152,6 +134,7 @@ pub fn interactive_end_of_line(text: &[u8], ends: Ends, at: usize) -> Option<usi
 }
 
 // Past a line end and the blanks after it.
+#[tactic(auto, using(dimacs::proofs::LinedTokens::blanks_lined), unfolding(dimacs::specs::Tokens::newline))]
 pub fn newline(text: &[u8], ends: Ends, at: usize) -> usize
     ensures { result ≡ newline (lined ends text.now) at }
 {
@@ -163,6 +146,7 @@ pub fn newline(text: &[u8], ends: Ends, at: usize) -> usize
 }
 
 // Past a comment of a log.
+#[tactic(auto, using(dimacs::proofs::LinedTokens::fixed_lined), unfolding(dimacs::specs::Tokens::strict_comment))]
 pub fn interactive_strict_comment(text: &[u8], ends: Ends, at: usize) -> usize
     ensures { result ≡ strict_comment (lined ends text.now) at }
 {
@@ -174,19 +158,18 @@ pub fn interactive_strict_comment(text: &[u8], ends: Ends, at: usize) -> usize
 }
 
 // Past a comment or a line end, without the blanks after it.
+#[tactic(auto, using(dimacs::proofs::Lined::eqb_lined), unfolding(dimacs::specs::Tokens::line_past))]
 pub fn line_past(text: &[u8], ends: Ends, at: usize) -> usize
     ensures { result ≡ line_past (lined ends text.now) at }
 {
-    if at < text.len() {
-        let b = text[at];
-        if b == b'c' {
-            return interactive_skip_line(text, ends, at + 1);
-        }
+    match text.get(at) {
+        Some(b'c') => interactive_skip_line(text, ends, at + 1),
+        _ => interactive_newline(text, ends, at),
     }
-    interactive_newline(text, ends, at)
 }
 
-// Past as many comments and line ends as there are.
+// Past as many comments and line ends as there are. A `loop`, since each round asks where the last one came to: it goes over no places that are known before.
+#[tactic(auto, using(dimacs::proofs::Lines::lines_stop, dimacs::proofs::Lines::lines_on, dimacs::proofs::LinedTokens::blanks_lined))]
 pub fn comments_and_newlines(text: &[u8], ends: Ends, at: usize) -> usize
     ensures { result ≡ lines (lined ends text.now) at }
 {
@@ -201,6 +184,7 @@ pub fn comments_and_newlines(text: &[u8], ends: Ends, at: usize) -> usize
 }
 
 // Past a line end with further comments and line ends.
+#[tactic(auto, unfolding(dimacs::specs::Tokens::linebreaks))]
 pub fn non_terminating_linebreaks(text: &[u8], ends: Ends, at: usize) -> usize
     ensures { result ≡ linebreaks (lined ends text.now) at }
 {
@@ -212,24 +196,22 @@ pub fn non_terminating_linebreaks(text: &[u8], ends: Ends, at: usize) -> usize
 }
 
 // Past the word at a place before the text's end, or as far as the longest word goes.
+#[tactic(auto, using(crate::proofs::Stops::in_word_first, crate::proofs::Stops::in_word_more, crate::proofs::Stops::past_word_stop, crate::proofs::Stops::past_word_there))]
 fn word_end(text: &[u8], at: usize) -> usize
     requires { at < length text.now }
     ensures { PastWord text.now at result }
 {
-    let mut i = at + 1;
-    while i < text.len() {
-        if LONGEST_WORD <= i - at {
-            return i;
-        }
+    let end = text.len().min(at + LONGEST_WORD);
+    for i in at + 1..end {
         if is_end_of_word(text, i) {
             return i;
         }
-        i += 1;
     }
-    i
+    end
 }
 
 // The word a reader stopped at, as a part of the text: empty at a line end or the end of the text.
+#[tactic(auto, using(crate::proofs::Stops::stopped_at_word, crate::proofs::Stops::stopped_at_line_end, crate::proofs::Stops::stopped_at_end))]
 pub fn stopped_at(text: &[u8], ends: Ends, at: usize) -> &[u8]
     ensures { WordAt text.entry ends at result }
 {

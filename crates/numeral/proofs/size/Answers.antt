@@ -2,7 +2,7 @@
 use Prim.Native.Nat.{◌+◌, ◌-◌, ◌^◌, ◌<◌}
 use mathlib.Core.Path.{◌≡◌, ◌∙◌}
 use Rattle.dimacs.specs.Names.{ceiling}
-use Rattle.numeral.proofs.Runs.{read_none, digit_more, digit_stop, few_none, few_more, few_fit, written_is}
+use Rattle.numeral.proofs.Runs.{digit_more, digit_stop, few_more, few_fit, written_is}
 use native.Mathlib.Omega.{arith}
 use Rattle.numeral.proofs.size.Goals as goal
 use Rattle.numeral.proofs.size.Goals.{At-loop-i}
@@ -10,12 +10,6 @@ use Rattle.numeral.proofs.size.Goals.{At-loop-i}
 -- They write less than ten to the power of eight.
 few : (c : At-loop-i) → c.loop-i.v < 10 ^ 8
 few c = few_fit (c.loop-i.i - c.args.at) 8 (omega arith) c.loop-i.invariant.1
-
-pub returns-then-left-lt-FEW : goal.returns-then-left-lt-FEW
-returns-then-left-lt-FEW c = c.uint.ensures
-
-pub loop-i-init : goal.loop-i-init
-loop-i-init c = (read_none _ _ _, few_none _, omega arith, omega arith)
 
 pub returns-then-d-gt9 : goal.returns-then-d-gt9
 returns-then-d-gt9 c = c.written.ensures ∙ written_is ceiling (digit_stop c.loop-i.invariant.0 (omega arith) c.digit-d.ensures c.if-d-gt9.true) (omega (arith, few (goal.at.returns-then-d-gt9 c).At-loop-i))
@@ -29,13 +23,3 @@ overflow_add-v c = omega (arith, few (goal.at.overflow_add-v c).At-loop-i)
 pub loop-i-preserved : goal.loop-i-preserved
 loop-i-preserved c = let inv = c.loop-i.invariant in let more : c.loop-i.i + 1 - c.args.at ≡ (c.loop-i.i - c.args.at) + 1 = omega arith in
     (digit_more inv.0 (omega arith) c.digit-d.ensures c.if-d-gt9.false, rw more (few_more (c.loop-i.i - c.args.at) inv.1 c.if-d-gt9.false), omega arith, omega arith)
-
-pub overflow_cast-v : goal.overflow_cast-v
-overflow_cast-v c = omega (arith, few (goal.at.overflow_cast-v c).At-loop-i)
-
-pub uint_on-requires : goal.uint_on-requires
-uint_on-requires c = let at_stop : c.loop-i.i ≡ c.args.at + 8 = omega arith in
-    rw at_stop at c.loop-i.invariant.0
-
-pub returns : goal.returns
-returns c = c.uint_on.ensures

@@ -5,6 +5,3 @@ use Rattle.numeral.proofs.size.Given as goal
 
 abbrev pub invariant-loop-i : goal.invariant-loop-i
 invariant-loop-i l = Read 0 l.text l.at l.i l.v × (l.v < 10 ^ (l.i - l.at)) × (l.at ≤ l.i) × (l.i ≤ l.stop)
-
-abbrev pub decreases-loop-i : goal.decreases-loop-i
-decreases-loop-i l = l.stop - l.i

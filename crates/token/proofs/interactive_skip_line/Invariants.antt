@@ -1,7 +1,5 @@
 -- `token::interactive_skip_line` meets its contract: what is past the bytes that end no line from i is what is past them from the start. Assumes nothing.
-use Prim.Native.Nat.{◌-◌}
 use mathlib.Core.Path.{◌≡◌}
-use lib.ListN.{length}
 use Rattle.dimacs.specs.Lined.{also_ends}
 use Rattle.dimacs.specs.declared.Ends.{Ends}
 use Rattle.token.proofs.Returns.{Searched}
@@ -10,6 +8,3 @@ use Rattle.token.proofs.interactive_skip_line.Given as goal
 -- The rule is known in the loop by the byte that ends a line beside LF.
 abbrev pub invariant-loop-i : goal.invariant-loop-i
 invariant-loop-i l = (rule : Ends) → l.also ≡ also_ends rule → Searched l.text l.at rule l.i
-
-abbrev pub decreases-loop-i : goal.decreases-loop-i
-decreases-loop-i l = length l.text - l.i
