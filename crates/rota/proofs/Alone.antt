@@ -4,7 +4,6 @@ use mathlib.Core.Bool.{Bool, true, false}
 use mathlib.Core.List.{List, [], ◌∷◌}
 use Rattle.std.specs.Prelude.{None, Some}
 use mathlib.Core.Path.{◌≡◌, refl, ap, sym, ◌∙◌, subst}
-use native.Mathlib.Omega.{arith}
 use Rattle.rota.specs.Rota.{Call, turn, Answer, told, answers, heard, to_the_last, is_withdrawn, AtOwnTurn, AtOwnTurns, Hears, Round, Served, serves, Desk, call}
 use Rattle.rota.proofs.Waiting.{unlike, Stands}
 use Rattle.rota.proofs.Tickets.{Lawful, Sound, sound_call}

@@ -89,6 +89,7 @@ fn stepped(s: Stepped) -> Served
 }
 
 // A job's text is opened at its first turn, and asked for the next clause at each later one.
+#[tactic(auto, unfolding(crate::specs::Serving::serving))]
 fn read(stage: Stage, text: &[u8], lits: &mut [i32]) -> Served
     ensures { Serves (serving text.now (list.length lits.old) stage) lits.old lits.new result }
 {
@@ -99,6 +100,7 @@ fn read(stage: Stage, text: &[u8], lits: &mut [i32]) -> Served
 }
 
 // A job is served on its own part of the area. A part outside the area is refused.
+#[tactic(auto, unfolding(crate::specs::Serving::served_part))]
 pub fn serve(stage: Stage, part: Part, area: &[u8], lits: &mut [i32]) -> Served
     ensures { Serves (served_part area.now part.start part.length (list.length lits.old) stage) lits.old lits.new result }
 {

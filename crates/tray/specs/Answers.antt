@@ -13,10 +13,14 @@ use Rattle.tray.specs.declared.Told.{Told}
 use Rattle.service.specs.Serving as serving
 use Rattle.service.specs.Serving.{Reply, opening, answering, said_of}
 
+-- An answer that is no refusal says what f makes of it.
+abbrev pub says : {A : Type 0} → (A → Answer Reply) → Result A Reason → Answer Reply
+says f (Ok a) = f a
+says f (Err why) = refused (number_of why)
+
 -- An answer to a put.
 abbrev pub put_says : Result ℕ Reason → Answer Reply
-put_says (Err why) = refused (number_of why)
-put_says (Ok k) = ticketed k
+put_says = says ticketed
 
 -- The literals that an answer counts stand first in the buffer after it.
 abbrev pub read_in : List ℤ → Next → def.Answer
@@ -31,13 +35,11 @@ reply_in new (said.Next a) = answering (read_in new a)
 
 -- An answer to a turn, with the buffer after it.
 abbrev pub turn_says : List ℤ → Result Told Reason → Answer Reply
-turn_says new (Err why) = refused (number_of why)
-turn_says new (Ok a) = told a.ticket (reply_in new a.said) a.last
+turn_says new = says (λ a. told a.ticket (reply_in new a.said) a.last)
 
 -- An answer to a withdrawal.
 abbrev pub withdraw_says : Result ℕ Reason → Answer Reply
-withdraw_says (Err why) = refused (number_of why)
-withdraw_says (Ok k) = withdrawn k
+withdraw_says = says withdrawn
 
 -- The number of a call that is refused, or of the refusal that a turn tells; 0 where nothing is refused.
 abbrev pub number_in : Answer Reply → ℕ

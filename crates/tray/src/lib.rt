@@ -107,6 +107,7 @@ fn tell(tray: Tray, job: Job, served: Served) -> Done<Told>
 }
 
 // The front job's turn. The buffer then holds the literals read, and after them what it held.
+#[tactic(auto, unfolding(crate::specs::Calls::turn_of, crate::specs::Calls::buffer_of))]
 pub fn turn(tray: Tray, area: &[u8], lits: &mut [i32]) -> Done<Told>
     ensures { Turns tray area.now lits.old lits.new result }
 {
