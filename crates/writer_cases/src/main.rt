@@ -7,17 +7,23 @@
 // Too many literals are `long`, and passed over; a frame that is cut off is `cut`, and an input that cannot be read is `unreadable`, and nothing follows them.
 #![tactic(auto)]
 
-ghost use Rattle.pages.specs.Pages.{Lays};
-ghost use Rattle.writer_cases.specs.Answers.{written_line, refused_call_line, call_line};
+ghost use Rattle.pages.specs.Pages.{Laid};
+ghost use Rattle.writer_cases.specs.Answers.{written_line, call_line};
 
 use answer_words::WRITTEN_WORDS;
-use console::Taken;
-use dimacs::{FORMAT_OR_MODE_UNKNOWN, LARGEST, Refusal};
+use by_number::{latchtwig_write_clause, latchtwig_write_hard_clause, latchtwig_write_header};
+use cases::{Cases, stopped_line};
+use console::{Shortfall, print, take};
+use dimacs::{Header, Reason, Refusal, refuse_call};
+use frame::{signed32, u8_at, u32_at, u64_at};
+use lines::{Page, first};
 use std::io::{Stdin, Stdout};
-use writer::Written;
 
 // The bytes of a frame before its literals.
 const HEAD: usize = 34;
+
+// The most literals.
+const LITERALS: usize = 8192;
 
 // The longest output.
 const OUTPUT: usize = 65536;
@@ -25,278 +31,174 @@ const OUTPUT: usize = 65536;
 // The longest line: `written`, a space, the output's length in five digits, a space, two digits for each of its bytes, and the line end.
 const PAGE: usize = 15 + 2 * OUTPUT;
 
-// What a frame asks for, but for the literals and the output.
-#[derive(Clone, Copy)]
-struct Call {
-    format: u8,
-    kind: u8,
-    first: u64,
-    second: u64,
-    third: u64,
+// What is to be written.
+#[derive(Clone, Copy, Debug, PartialEq, Eq)]
+enum Piece {
+    Header(Header),
+    Clause { extra: u64 },
+    HardClause,
+}
+
+// The piece of a frame, if its kind is one.
+fn piece_of(frame: &[u8]) -> Option<Piece> {
+    match u8_at(frame, 1) {
+        0 => Some(Piece::Header(Header {
+            variables: u64_at(frame, 6),
+            clauses: u64_at(frame, 14),
+            third: u64_at(frame, 22),
+        })),
+        1 => Some(Piece::Clause {
+            extra: u64_at(frame, 6),
+        }),
+        2 => Some(Piece::HardClause),
+        _ => None,
+    }
 }
 
 // What the output holds at a place before a call. Neighbours differ, so that a byte that was moved is seen too.
-fn pattern(i: usize) -> u8 {
-    (i % 251) as u8
+fn pattern(place: usize) -> u8 {
+    (place % 251) as u8
 }
 
-fn fill(out: &mut [u8]) {
-    for i in 0..out.len() {
-        out[i] = pattern(i);
+fn fill(output: &mut [u8]) {
+    for (place, byte) in output.iter_mut().enumerate() {
+        *byte = pattern(place);
     }
 }
 
 // Whether the output from a place on is as it was filled.
-fn untouched(out: &[u8], from: usize) -> bool {
-    let mut i = from;
-    while i < out.len() {
-        if out[i] != pattern(i) {
-            return false;
-        }
-        i += 1;
-    }
-    true
+fn is_untouched(output: &[u8], from: usize) -> bool {
+    output
+        .iter()
+        .enumerate()
+        .skip(from)
+        .all(|(place, byte)| *byte == pattern(place))
 }
 
-// Says so if a call changed more than its line. It is proved that none does.
-fn rest(stdout: &mut Stdout, out: &[u8], from: usize) {
-    if !untouched(out, from) {
-        console::print(stdout, b"touched\n");
-    }
-}
-
-fn written_line(page: &mut [u8], at: usize, w: &[u8]) -> usize
-    ensures { Lays at (written_line w.now) page.old page.new result }
+fn written_line(page: &mut Page, written: &[u8])
+    ensures { Laid (written_line written.now) page.old page.new }
 {
-    let past_word = lines::word(page, at, b"written");
-    let past_number = lines::number(page, past_word, w.len() as u64);
-    let past_space = lines::word(page, past_number, b" ");
-    let past_bytes = lines::hex_word(page, past_space, w);
-    lines::word(page, past_bytes, b"\n")
-}
-
-fn refused_call_line(page: &mut [u8], at: usize, r: Refusal) -> usize
-    ensures { Lays at (refused_call_line r) page.old page.new result }
-{
-    let past = lines::refused_words(page, at, r, 0, b"", b"", b"", b"");
-    lines::word(page, past, b"\n")
+    page.word(b"written");
+    page.number(written.len() as u64);
+    page.byte(b' ');
+    page.hex_word(written);
+    page.byte(b'\n');
 }
 
 // The answer of a call that left this output.
-fn call_line(page: &mut [u8], at: usize, answer: Written, out: &[u8]) -> usize
-    ensures { Lays at (call_line answer out.now) page.old page.new result }
+fn call_line(page: &mut Page, answer: Result<usize, Refusal>, output: &[u8])
+    ensures { Laid (call_line answer output.now) page.old page.new }
 {
     match answer {
-        Written::Line(n) => written_line(page, at, lines::upto(out, n)),
-        Written::Refused(refusal) => refused_call_line(page, at, refusal),
+        Ok(count) => written_line(page, first(output, count)),
+        Err(refusal) => stopped_line(page, refusal, 0, &[]),
     }
-}
-
-// How long a line was written.
-fn line_length(answer: Written) -> usize {
-    match answer {
-        Written::Line(n) => n,
-        Written::Refused(_) => 0,
-    }
-}
-
-// The answer where a number names no kind.
-fn unknown() -> Written {
-    Written::Refused(dimacs::refuse_call(FORMAT_OR_MODE_UNKNOWN, 0))
 }
 
 // The answer that words tell: a line where 1 is answered, else a refusal.
-fn told(kind: u32, words: [u64; WRITTEN_WORDS]) -> Written {
+fn told(kind: u32, words: [u64; WRITTEN_WORDS]) -> Result<usize, Refusal> {
+    let [number, place, line, column, count] = words;
     if kind == 1 {
-        return Written::Line(words[4] as usize);
+        return Ok(count as usize);
     }
-    Written::Refused(Refusal {
-        number: numbers::narrowed(words[0]),
-        place: words[1] as usize,
-        line: words[2] as usize,
-        column: words[3] as usize,
-    })
+    Err(numbers::refusal_of([number, place, line, column]))
 }
 
-fn header(call: Call, out: &mut [u8]) -> Written {
-    let mut words = [0u64; WRITTEN_WORDS];
-    let kind = by_number::latchtwig_write_header(
-        call.format as u32,
-        call.first,
-        call.second,
-        call.third,
-        out,
-        &mut words,
-    );
-    told(kind, words)
-}
-
-fn clause(call: Call, lits: &[i32], out: &mut [u8]) -> Written {
-    let mut words = [0u64; WRITTEN_WORDS];
-    let kind = by_number::latchtwig_write_clause(
-        call.format as u32,
-        call.first,
-        lits,
-        out,
-        &mut words,
-    );
-    told(kind, words)
-}
-
-fn hard_clause(call: Call, lits: &[i32], out: &mut [u8]) -> Written {
-    let mut words = [0u64; WRITTEN_WORDS];
-    let kind = by_number::latchtwig_write_hard_clause(call.format as u32, lits, out, &mut words);
-    told(kind, words)
-}
-
-// The call made, of the kind that its number names.
-fn made(call: Call, lits: &[i32], out: &mut [u8]) -> Written {
-    let kind = call.kind;
-    match kind {
-        0 => header(call, out),
-        1 => clause(call, lits, out),
-        2 => hard_clause(call, lits, out),
-        _ => unknown(),
-    }
-}
-
-// A call made on an output that is filled before it, and its answer printed.
-fn answer(stdout: &mut Stdout, page: &mut [u8], call: Call, lits: &[i32], out: &mut [u8]) {
-    fill(out);
-    let answer = made(call, lits, out);
-    let past = call_line(page, 0, answer, out);
-    console::print(stdout, lines::upto(page, past));
-    rest(stdout, out, line_length(answer));
-}
-
-// Takes the next literals of the input, and answers whether they came; if not, that is told.
-fn literals(stdin: &mut Stdin, stdout: &mut Stdout, lits: &mut [i32]) -> bool {
-    let mut i: usize = 0;
-    while i < lits.len() {
-        let mut b = [0u8; 4];
-        let taken = console::take(stdin, &mut b);
-        let Taken::Whole = taken else {
-            return console::stop(stdout, taken);
-        };
-        lits[i] = frame::signed32(frame::u32_at(&b, 0));
-        i += 1;
-    }
-    true
-}
-
-// A call once its literals came, and whether another frame may follow.
-fn called(
-    stdin: &mut Stdin,
-    stdout: &mut Stdout,
-    page: &mut [u8],
-    call: Call,
-    lits: &mut [i32],
-    out: &mut [u8],
-) -> bool {
-    if !literals(stdin, stdout, lits) {
-        return false;
-    }
-    answer(stdout, page, call, lits, out);
-    true
-}
-
-fn call_of(frame: &[u8]) -> Call {
-    Call {
-        format: frame::u8_at(frame, 0),
-        kind: frame::u8_at(frame, 1),
-        first: frame::u64_at(frame, 6),
-        second: frame::u64_at(frame, 14),
-        third: frame::u64_at(frame, 22),
-    }
-}
-
-// Passes over literals that are more than are taken, and tells whether another frame may follow.
-fn long(stdin: &mut Stdin, stdout: &mut Stdout, length: usize) -> bool {
-    console::print(stdout, b"long\n");
-    let taken = console::skip(stdin, length);
-    let Taken::Whole = taken else {
-        return console::stop(stdout, taken);
-    };
-    true
-}
-
-// The call of a frame, its output and literals no longer than those lent, and whether another frame may follow.
-fn framed(
-    stdin: &mut Stdin,
-    stdout: &mut Stdout,
-    page: &mut [u8],
-    frame: &[u8],
-    lits: &mut [i32],
-    out: &mut [u8],
-) -> bool {
-    let given = frame::u32_at(frame, 30) as usize;
-    if lits.len() < given {
-        return long(stdin, stdout, 4 * given);
-    }
-    let lent = frame::smaller(frame::u32_at(frame, 2) as usize, out.len());
-    called(
-        stdin,
-        stdout,
-        page,
-        call_of(frame),
-        &mut lits[..given],
-        &mut out[..lent],
-    )
-}
-
-fn show_case(stdout: &mut Stdout, page: &mut [u8], case: u64) {
-    let past = lines::case_line(page, 0, case);
-    console::print(stdout, lines::upto(page, past));
-}
-
-// A frame that is cut off, if any of it came.
-fn cut(stdout: &mut Stdout, page: &mut [u8], case: u64, got: usize) -> bool {
-    if got == 0 {
-        return false;
-    }
-    show_case(stdout, page, case);
-    console::stop(stdout, Taken::Part(got))
-}
-
-// One case, and whether another may follow.
-fn one(
-    stdin: &mut Stdin,
-    stdout: &mut Stdout,
-    page: &mut [u8],
-    case: u64,
-    lits: &mut [i32],
-    out: &mut [u8],
-) -> bool {
-    let mut frame = [0u8; HEAD];
-    let taken = console::take(stdin, &mut frame);
-    match taken {
-        Taken::Whole => {
-            show_case(stdout, page, case);
-            framed(stdin, stdout, page, &frame, lits, out)
+// The call made. Where a number names no kind, it is refused here.
+fn made(
+    format: u32,
+    piece: Option<Piece>,
+    lits: &[i32],
+    output: &mut [u8],
+) -> Result<usize, Refusal> {
+    let mut words = [0; WRITTEN_WORDS];
+    let kind = match piece {
+        Some(Piece::Header(header)) => latchtwig_write_header(
+            format,
+            header.variables,
+            header.clauses,
+            header.third,
+            output,
+            &mut words,
+        ),
+        Some(Piece::Clause { extra }) => {
+            latchtwig_write_clause(format, extra, lits, output, &mut words)
         }
-        Taken::Part(got) => cut(stdout, page, case, got),
-        Taken::Failed => console::stop(stdout, taken),
+        Some(Piece::HardClause) => latchtwig_write_hard_clause(format, lits, output, &mut words),
+        None => return Err(refuse_call(Reason::FormatOrModeUnknown, 0)),
+    };
+    told(kind, words)
+}
+
+// Takes the next literals of the input.
+fn take_literals(stdin: &mut Stdin, lits: &mut [i32]) -> Result<(), Shortfall> {
+    for lit in lits {
+        let mut bytes = [0; 4];
+        take(stdin, &mut bytes)?;
+        *lit = signed32(u32_at(&bytes, 0));
+    }
+    Ok(())
+}
+
+// The places for literals, for an output and for a line.
+#[derive(Drop)]
+struct Writers {
+    lits: [i32; LITERALS],
+    output: [u8; OUTPUT],
+    page: [u8; PAGE],
+}
+
+impl Writers {
+    // A call made on an output that is filled before it, and its answer printed. It is proved that no call changes more than its line; one that did would be told.
+    fn call(&mut self, frame: &[u8], given: usize, stdout: &mut Stdout) {
+        let lits = first(&self.lits, given);
+        let lent = (u32_at(frame, 2) as usize).min(OUTPUT);
+        let output = &mut self.output[..];
+        let output = &mut output[..lent];
+        fill(output);
+        let answer = made(u32::from(u8_at(frame, 0)), piece_of(frame), lits, output);
+        let mut page = Page {
+            bytes: &mut self.page,
+            at: 0,
+        };
+        call_line(&mut page, answer, output);
+        page.show(stdout);
+        if !is_untouched(output, answer.unwrap_or(0)) {
+            print(stdout, b"touched\n");
+        }
     }
 }
 
-fn cases(
-    stdin: &mut Stdin,
-    stdout: &mut Stdout,
-    page: &mut [u8],
-    lits: &mut [i32],
-    out: &mut [u8],
-) {
-    let mut case: u64 = 0;
-    while case < LARGEST && one(stdin, stdout, page, case, lits, out) {
-        case += 1;
+impl Cases<Stdin, Stdout> for Writers {
+    fn title(&mut self, stdout: &mut Stdout, case: u64) {
+        cases::title(stdout, case);
+    }
+
+    // More literals than are taken are passed over.
+    fn answer(
+        &mut self,
+        stdin: &mut Stdin,
+        stdout: &mut Stdout,
+        frame: &[u8],
+    ) -> Result<(), Shortfall> {
+        let given = u32_at(frame, 30) as usize;
+        if LITERALS < given {
+            return cases::long(stdin, stdout, 4 * given);
+        }
+        let lits = &mut self.lits[..];
+        take_literals(stdin, &mut lits[..given])?;
+        self.call(frame, given, stdout);
+        Ok(())
     }
 }
 
 fn main(rt: HostRuntime) {
-    let mut stdin = rt.stdin();
+    let mut writers = Writers {
+        lits: [0; LITERALS],
+        output: [0; OUTPUT],
+        page: [0; PAGE],
+    };
     let mut stdout = rt.stdout();
-    let mut page = [0u8; PAGE];
-    let mut lits = [0i32; 8192];
-    let mut out = [0u8; OUTPUT];
-    cases(&mut stdin, &mut stdout, &mut page, &mut lits, &mut out);
+    let answered = cases::answers(&mut writers, &mut rt.stdin(), &mut stdout, &mut [0; HEAD]);
+    console::stop(&mut stdout, answered);
 }
