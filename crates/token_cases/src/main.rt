@@ -9,8 +9,10 @@
 ghost use Rattle.pages.specs.Pages.{Laid};
 ghost use Rattle.token_cases.specs.Answers.{printed_past, printed_end_of_line, printed_uint, printed_int, test_answers, end_answers, line_answers, word_answers, number_answers, token_line};
 
-use console::Shortfall;
+use cases::Cases;
+use console::{Shortfall, take};
 use dimacs::{Ends, Int, Uint};
+use frame::{u8_at, u64_at};
 use pages::Page;
 use std::io::{Stdin, Stdout};
 
@@ -129,64 +131,43 @@ fn ends_of(b: u8) -> Ends {
     }
 }
 
-// What follows the text of a case, and its line.
-fn asked(
-    stdin: &mut Stdin,
-    stdout: &mut Stdout,
-    page: &mut Page,
-    text: &[u8],
-) -> Result<(), Shortfall> {
-    let mut numbers = [0u8; 17];
-    console::take(stdin, &mut numbers)?;
-    let from = frame::u64_at(&numbers, 0) as usize;
-    let ends = ends_of(frame::u8_at(&numbers, 16));
-    token_line(page, text, ends, from, frame::u64_at(&numbers, 8));
-    page.show(stdout);
-    Ok(())
+// The token functions, and the page for a line.
+#[derive(Drop)]
+struct Tokens {
+    page: [u8; PAGE],
 }
 
-// The rest of a case whose text fills the slice lent.
-fn case(
-    stdin: &mut Stdin,
-    stdout: &mut Stdout,
-    page: &mut Page,
-    text: &mut [u8],
-) -> Result<(), Shortfall> {
-    console::take(stdin, text)?;
-    asked(stdin, stdout, page, text)
-}
-
-// One case, and whether there was one.
-fn one(stdin: &mut Stdin, stdout: &mut Stdout, page: &mut Page) -> Result<bool, Shortfall> {
-    let mut first = [0u8; 1];
-    match console::take(stdin, &mut first) {
-        Ok(()) => {}
-        Err(Shortfall::Part(_)) => return Ok(false),
-        Err(Shortfall::Failed) => return Err(Shortfall::Failed),
+impl Cases<Stdin, Stdout> for Tokens {
+    fn answer(
+        &mut self,
+        stdin: &mut Stdin,
+        stdout: &mut Stdout,
+        frame: &[u8],
+    ) -> Result<(), Shortfall> {
+        let mut bytes = [0u8; TEXT];
+        let text = &mut bytes[..usize::from(u8_at(frame, 0))];
+        take(stdin, text)?;
+        let mut numbers = [0u8; 17];
+        take(stdin, &mut numbers)?;
+        let mut page = Page {
+            bytes: &mut self.page,
+            at: 0,
+        };
+        token_line(
+            &mut page,
+            text,
+            ends_of(u8_at(&numbers, 16)),
+            u64_at(&numbers, 0) as usize,
+            u64_at(&numbers, 8),
+        );
+        page.show(stdout);
+        Ok(())
     }
-    let mut text = [0u8; TEXT];
-    let n = usize::from(first[0]);
-    case(stdin, stdout, page, &mut text[..n])?;
-    Ok(true)
-}
-
-fn cases(stdin: &mut Stdin, stdout: &mut Stdout, page: &mut Page) -> Result<(), Shortfall> {
-    for _ in 0..u64::MAX {
-        if !one(stdin, stdout, page)? {
-            return Ok(());
-        }
-    }
-    Ok(())
 }
 
 fn main(rt: HostRuntime) {
-    let mut stdin = rt.stdin();
+    let mut tokens = Tokens { page: [0; PAGE] };
     let mut stdout = rt.stdout();
-    let mut bytes = [0u8; PAGE];
-    let mut page = Page {
-        bytes: &mut bytes,
-        at: 0,
-    };
-    let ended = cases(&mut stdin, &mut stdout, &mut page);
-    console::stop(&mut stdout, ended);
+    let answered = cases::answers(&mut tokens, &mut rt.stdin(), &mut stdout, &mut [0; 1]);
+    console::stop(&mut stdout, answered);
 }
