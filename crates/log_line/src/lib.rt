@@ -98,6 +98,7 @@ pub fn solution_line(
     ensures { ByCount reading.count (λ so. log_line_of (solution_line (lined ends text.now) at (log_state_of reading so))) (leads result) }
 {
     for (word, verdict) in WORDS {
+        // Where the word does not stand, this is the place itself, as in the definition.
         let place = token::fixed(text, at, word);
         if place != at {
             let read = Reading {

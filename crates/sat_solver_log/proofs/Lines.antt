@@ -4,11 +4,10 @@ use mathlib.Core.Bool.{Bool, true, false, cond, ◌||◌}
 use mathlib.Core.List.{List}
 use mathlib.Core.Path.{◌≡◌, refl, ap, sym, ◌∙◌, subst⁻¹}
 use native.Mathlib.Omega.{arith}
-use borrow.Author.Tests.{eq-eqb, ne_eqb}
 use lib.ListN.{length, take}
 use lib.Seq.{length-take-le}
 use lib.IntN.{ℤ}
-use Rattle.std.specs.Prelude.{Option, Some, Result, Ok, Err}
+use Rattle.std.specs.Prelude.{Option, None, Some, Result, Ok, Err}
 use Rattle.std.specs.Result.{MatchResult, IsOkAnd}
 use Rattle.dimacs.specs.Loop.{Step, again, answer}
 use Rattle.dimacs.specs.Bytes.{bytes}
@@ -35,7 +34,7 @@ use Rattle.log_line.specs.declared.Reading.{Reading}
 use Rattle.log_line.specs.declared.Accepted.{Accepted}
 use Rattle.log_line.proofs.Rows.{line_read_leaves}
 use Rattle.sat_solver_log.specs.Answers.{line_leads}
-use Rattle.sat_solver_log.specs.Starts.{value_start, solution_start}
+use Rattle.sat_solver_log.specs.Starts.{found, value_start, solution_start}
 use Rattle.sat_solver_log.specs.declared.Line as own
 use Rattle.sat_solver_log.specs.declared.Line.TheVariants.{Again, End}
 
@@ -82,21 +81,23 @@ line_at s rigor lits x = def.log_line s rigor (length lits) (log_state_of x (tak
 line_adds_none : {d e : Step def.Log def.LogAnswer} {old : List ℤ} {count : ℕ} {r : Line} → count ≤ length old → d ≡ e → line_leaves e ≡ take count old → r ≡ log_line_of e → ReadsLine d old old r
 line_adds_none h k l is = record { line = is ∙ ap log_line_of (sym k); buffer = rw (k, l) (kept_in_place (kept_unchanged h)) }
 
--- First bytes that are looked for only if a test fails.
-module _ (t : Bool) (v w at : ℕ) (is : v ≡ cond t at w) where
-  starts_not : v ≡ at → t || unmoved at w ≡ true
-  starts_not h = go t is
+-- What is looked for only if a test fails.
+module _ (t : Bool) (v : Option ℕ) (w at : ℕ) (is : v ≡ cond t None (found at w)) where
+  starts_not : v ≡ None → t || unmoved at w ≡ true
+  starts_not h = go t (unmoved at w) (sym is ∙ h)
     where
-      go : (t : Bool) → v ≡ cond t at w → t || unmoved at w ≡ true
-      go true e = refl
-      go false e = eq-eqb w at (sym e ∙ h)
+      go : (t b : Bool) → cond t None (cond b None (Some w)) ≡ None → t || b ≡ true
+      go true b e = refl
+      go false true e = refl
+      go false false e = absurd (let z : ◌≡◌ {A = ℕ} 0 1 = cc in omega arith)
 
-  starts_so : (v ≡ at → ⊥) → (t || unmoved at w ≡ false) × (v ≡ w)
-  starts_so h = go t is
+  starts_so : {n : ℕ} → v ≡ Some n → (t || unmoved at w ≡ false) × (n ≡ w)
+  starts_so {n} h = go t (unmoved at w) (sym is ∙ h)
     where
-      go : (t : Bool) → v ≡ cond t at w → (t || unmoved at w ≡ false) × (v ≡ w)
-      go true e = absurd (h e)
-      go false e = (ne_eqb w at (λ k. h (e ∙ k)), e)
+      go : (t b : Bool) → cond t None (cond b None (Some w)) ≡ Some n → (t || b ≡ false) × (n ≡ w)
+      go true b e = absurd (let z : ◌≡◌ {A = ℕ} 0 1 = cc in omega arith)
+      go false true e = absurd (let z : ◌≡◌ {A = ℕ} 0 1 = cc in omega arith)
+      go false false e = (refl, cc)
 
 -- By the places that the calls for the first bytes gave, what the call for the kind of line gives.
 module _ (rule : Ends) (s : List ℕ) (rigor : Rigor) (x : Reading) (old : List ℤ) (fits : x.count ≤ length old) where
@@ -107,52 +108,55 @@ module _ (rule : Ends) (s : List ℕ) (rigor : Rigor) (x : Reading) (old : List 
   many : length (take x.count old) ≡ x.count
   many = length-take-le x.count old fits
 
-  module _ (c : ℕ) (c-is : c ≡ strict_comment read x.place) where
-    comment_line_is : (c ≡ x.place → ⊥) → line_at read rigor old x ≡ again (def.log_at c x.verdict x.assignment (take x.count old))
+  module _ (c : Option ℕ) (c-is : c ≡ found x.place (strict_comment read x.place)) where
+    comment_line_is : {n : ℕ} → c ≡ Some n → line_at read rigor old x ≡ again (def.log_at n x.verdict x.assignment (take x.count old))
     unfolding def.log_line
-    comment_line_is h = rw (sym c-is, ne_eqb c x.place h)
+    comment_line_is h = let j = starts_so false c (strict_comment read x.place) x.place c-is h in rw (j.0, j.1) refl
 
-    pub comment_line : (c ≡ x.place → ⊥) → ReadsLine (line_at read rigor old x) old old (again (record { place = c; verdict = x.verdict; assignment = x.assignment; count = x.count }))
+    pub comment_line : {n : ℕ} → c ≡ Some n → ReadsLine (line_at read rigor old x) old old (again (record { place = n; verdict = x.verdict; assignment = x.assignment; count = x.count }))
     comment_line h = line_adds_none fits (comment_line_is h) refl (rw many)
 
-    module _ (c-no : c ≡ x.place) (v : ℕ) (v-is : v ≡ value_start s x.assignment x.place) where
-      values_at : v ≡ cond (def.is_closed x.assignment) x.place (fixed read (bytes "v ") x.place)
-      values_at = v-is ∙ ap (cond (def.is_closed x.assignment) x.place) (sym (fixed_lined rule s (bytes "v ") x.place refl))
+    module _ (c-no : c ≡ None) (v : Option ℕ) (v-is : v ≡ value_start s x.assignment x.place) where
+      no_comment : unmoved x.place (strict_comment read x.place) ≡ true
+      no_comment = starts_not false c (strict_comment read x.place) x.place c-is c-no
 
-      value_line_is : (v ≡ x.place → ⊥) → line_at read rigor old x ≡ def.value_line read (length old) v (log_state_of x (take x.count old))
+      values_at : v ≡ cond (def.is_closed x.assignment) None (found x.place (fixed read (bytes "v ") x.place))
+      values_at = v-is ∙ ap (λ e. cond (def.is_closed x.assignment) None (found x.place e)) (sym (fixed_lined rule s (bytes "v ") x.place refl))
+
+      value_line_is : {n : ℕ} → v ≡ Some n → line_at read rigor old x ≡ def.value_line read (length old) n (log_state_of x (take x.count old))
       unfolding def.log_line
       value_line_is h =
           let j = starts_so (def.is_closed x.assignment) v (fixed read (bytes "v ") x.place) x.place values_at h in
-          rw (sym c-is, eq-eqb c x.place c-no, j.0, j.1)
+          rw (no_comment, j.0, j.1) refl
 
-      pub value_line_lem : (v ≡ x.place → ⊥) → {new : List ℤ} {r : Line} → ReadsLine (def.value_line read (length old) v (log_state_of x (take x.count old))) old new r
+      pub value_line_lem : {n : ℕ} → v ≡ Some n → {new : List ℤ} {r : Line} → ReadsLine (def.value_line read (length old) n (log_state_of x (take x.count old))) old new r
           → ReadsLine (line_at read rigor old x) old new r
       value_line_lem h g = rw (value_line_is h) g
 
-      module _ (v-no : v ≡ x.place) (e : ℕ) (e-is : e ≡ solution_start s x.verdict x.place) where
-        word_at : e ≡ cond (def.is_said x.verdict) x.place (fixed read (bytes "s ") x.place)
-        word_at = e-is ∙ ap (cond (def.is_said x.verdict) x.place) (sym (fixed_lined rule s (bytes "s ") x.place refl))
+      module _ (v-no : v ≡ None) (e : Option ℕ) (e-is : e ≡ solution_start s x.verdict x.place) where
+        word_at : e ≡ cond (def.is_said x.verdict) None (found x.place (fixed read (bytes "s ") x.place))
+        word_at = e-is ∙ ap (λ i. cond (def.is_said x.verdict) None (found x.place i)) (sym (fixed_lined rule s (bytes "s ") x.place refl))
 
         no_values : def.is_closed x.assignment || unmoved x.place (fixed read (bytes "v ") x.place) ≡ true
         no_values = starts_not (def.is_closed x.assignment) v (fixed read (bytes "v ") x.place) x.place values_at v-no
 
-        solution_line_is : (e ≡ x.place → ⊥) → line_at read rigor old x ≡ def.solution_line read e (log_state_of x (take x.count old))
+        solution_line_is : {n : ℕ} → e ≡ Some n → line_at read rigor old x ≡ def.solution_line read n (log_state_of x (take x.count old))
         unfolding def.log_line
         solution_line_is h =
             let i = starts_so (def.is_said x.verdict) e (fixed read (bytes "s ") x.place) x.place word_at h in
-            rw (sym c-is, eq-eqb c x.place c-no, no_values, i.0, i.1)
+            rw (no_comment, no_values, i.0, i.1) refl
 
-        pub solution_line_lem : (e ≡ x.place → ⊥) → {r : Line} → ByCount x.count (λ so. log_line_of (def.solution_line read e (log_state_of x so))) r
+        pub solution_line_lem : {n : ℕ} → e ≡ Some n → {r : Line} → ByCount x.count (λ so. log_line_of (def.solution_line read n (log_state_of x so))) r
             → ReadsLine (line_at read rigor old x) old old r
-        solution_line_lem h is = line_adds_none fits (solution_line_is h) (solution_line_leaves read e (log_state_of x (take x.count old))) (is (take x.count old) many)
+        solution_line_lem {n} h is = line_adds_none fits (solution_line_is h) (solution_line_leaves read n (log_state_of x (take x.count old))) (is (take x.count old) many)
 
-        module _ (e-no : e ≡ x.place) where
+        module _ (e-no : e ≡ None) where
           no_solution : def.is_said x.verdict || unmoved x.place (fixed read (bytes "s ") x.place) ≡ true
           no_solution = starts_not (def.is_said x.verdict) e (fixed read (bytes "s ") x.place) x.place word_at e-no
 
           last_line_is : at_end s x.place ≡ true → line_at read rigor old x ≡ answer (def.log_end read x.place x.verdict (take x.count old) x.assignment)
           unfolding def.log_line
-          last_line_is t = rw (sym c-is, eq-eqb c x.place c-no, no_values, no_solution, end_lined rule s x.place, t)
+          last_line_is t = rw (no_comment, no_values, no_solution, end_lined rule s x.place, t)
 
           pub last_line : at_end s x.place ≡ true → {a : Result Accepted Stopped}
               → ByCount x.count (λ so. log_of (def.log_end read x.place x.verdict so x.assignment)) a → ReadsLine (line_at read rigor old x) old old (answer a)
@@ -160,7 +164,7 @@ module _ (rule : Ends) (s : List ℕ) (rigor : Rigor) (x : Reading) (old : List 
 
           other_line_is : at_end s x.place ≡ false → line_at read rigor old x ≡ def.other_line read rigor (log_state_of x (take x.count old))
           unfolding def.log_line
-          other_line_is t = rw (sym c-is, eq-eqb c x.place c-no, no_values, no_solution, end_lined rule s x.place, t)
+          other_line_is t = rw (no_comment, no_values, no_solution, end_lined rule s x.place, t)
 
           pub other_line_lem : at_end s x.place ≡ false → {r : Line} → ByCount x.count (λ so. log_line_of (def.other_line read rigor (log_state_of x so))) r
               → ReadsLine (line_at read rigor old x) old old r

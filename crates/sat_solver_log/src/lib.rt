@@ -7,7 +7,7 @@ ghost use Rattle.dimacs.specs.Lined.{lined};
 ghost use Rattle.dimacs.specs.Logs.{log_line, log};
 ghost use Rattle.log_line.specs.Lines.{log_state_of, ReadsLine};
 ghost use Rattle.sat_solver_log.specs.Answers.{line_leads, log_by, Parses};
-ghost use Rattle.sat_solver_log.specs.Starts.{value_start, solution_start};
+ghost use Rattle.sat_solver_log.specs.Starts.{found, value_start, solution_start};
 
 use dimacs::{Assignment, Kind, LOG_FORMAT, Mode, Reason, Verdict, kind_of, refuse_call};
 use log_line::{Accepted, Reading, log_end, other_line, solution_line, value_line};
@@ -20,24 +20,31 @@ enum Line {
     End(Accepted),
 }
 
+// What stands at a place, by the place past it, which is the place itself where nothing stands.
+fn found(at: usize, past: usize) -> Option<usize>
+    ensures { result ≡ found at past }
+{
+    (past != at).then_some(past)
+}
+
 // Past `v `, while no 0 has closed the assignment.
-fn value_start(text: &[u8], at: usize, assignment: Assignment) -> usize
+fn value_start(text: &[u8], at: usize, assignment: Assignment) -> Option<usize>
     ensures { result ≡ value_start text.now assignment at }
 {
     if assignment == Assignment::Closed {
-        return at;
+        return None;
     }
-    token::fixed(text, at, b"v ")
+    found(at, token::fixed(text, at, b"v "))
 }
 
 // Past `s `, if no solution line came.
-fn solution_start(text: &[u8], at: usize, verdict: Option<Verdict>) -> usize
+fn solution_start(text: &[u8], at: usize, verdict: Option<Verdict>) -> Option<usize>
     ensures { result ≡ solution_start text.now verdict at }
 {
     if verdict.is_some() {
-        return at;
+        return None;
     }
-    token::fixed(text, at, b"s ")
+    found(at, token::fixed(text, at, b"s "))
 }
 
 // One line of any kind, or the end of the text.
@@ -47,19 +54,13 @@ fn any_line(text: &[u8], mode: Mode, reading: Reading, lits: &mut [i32]) -> Resu
 {
     let ends = mode.ends;
     let at = reading.place;
-    let past = token::interactive_strict_comment(text, ends, at);
-    if past != at {
-        return Ok(Line::Again(Reading {
-            place: past,
-            ..reading
-        }));
+    if let Some(place) = found(at, token::interactive_strict_comment(text, ends, at)) {
+        return Ok(Line::Again(Reading { place, ..reading }));
     }
-    let values = value_start(text, at, reading.assignment);
-    if values != at {
+    if let Some(values) = value_start(text, at, reading.assignment) {
         return value_line(text, ends, values, reading, lits).map(Line::Again);
     }
-    let word = solution_start(text, at, reading.verdict);
-    if word != at {
+    if let Some(word) = solution_start(text, at, reading.verdict) {
         return solution_line(text, ends, word, reading).map(Line::Again);
     }
     if token::eof(text, at) {
