@@ -4,8 +4,9 @@ use Prim.Native.Char.{code}
 use mathlib.Core.List.{List, [], ◌∷◌, ◌++◌}
 use mathlib.Core.Path.{◌≡◌, ap, sym, ◌∙◌}
 use native.Mathlib.Omega.{arith}
-use borrow.Author.Tests.{ltb-true, ltb-false}
-use lib.Dec.{ltb}
+use borrow.Author.Tests.{ltb-true, ltb-false, leb-true, leb-false}
+use lib.Dec.{ltb, leb}
+use Rattle.std.specs.List.{prefix_len}
 use lib.ListN.{length, set, length-append, length-set}
 use lib.Seq.{sets, set_comm}
 use Rattle.dimacs.specs.Writing.{digits}
@@ -53,6 +54,28 @@ digits_above zero n h = omega (arith, digits_bounded n)
 digits_above (suc k) n h =
     let some : 10 ≤ n = omega (arith, tens_some k) in
     omega (arith, more_long n some, digits_above k (n / 10) (omega arith))
+
+pub tens_rise : (j k : ℕ) → j ≤ k → tens j ≤ tens k
+tens_rise j zero h = let e : j ≡ 0 = omega arith in rw e (omega arith)
+tens_rise j (suc k) h =
+    tested (ltb k j)
+    (λ t. let e : j ≡ suc k = omega (arith, ltb-true k j t) in rw e (omega arith))
+    (λ t. omega (arith, tens_rise j k (ltb-false k j t)))
+
+-- The powers of ten of so many places from a place up.
+abbrev pub powers : ℕ → ℕ → List ℕ
+powers low zero = []
+powers low (suc many) = tens low ∷ powers (suc low) many
+
+module _ (n : ℕ) where
+  -- A number has a digit for each that fits, beside those below the first.
+  pub front_counted : (many low : ℕ) → 1 ≤ low → low ≤ length (digits n) → n < tens (low + many) → low + prefix_len (λ p. leb p n) (powers low many) ≡ length (digits n)
+  front_counted zero low l h f = let none : low + 0 ≡ low = omega arith in omega (arith, h, digits_below low n l (rw none at f))
+  front_counted (suc many) low l h f =
+      tested (leb (tens low) n)
+      (λ e. let up : low + suc many ≡ suc low + many = omega arith in
+      rw e (omega (arith, front_counted many (suc low) (omega arith) (digits_above low n (leb-true (tens low) n e)) (rw up at f))))
+      (λ e. rw e (omega (arith, h, digits_below low n l (leb-false (tens low) n e))))
 
 -- The last of a run of stores may come first.
 sets_last : {A : Type 0} (vs l : List A) (at : ℕ) (d : A) → sets l at (vs ++ (d ∷ [])) ≡ sets (set l (at + length vs) d) at vs

@@ -17,13 +17,6 @@ use Rattle.decimals.proofs.Digits.{tens_some}
 pub tens_next : (k : ℕ) → tens (k + 1) ≡ tens k * 10
 tens_next k = ap tens (add-one k)
 
-pub tens_rise : (j k : ℕ) → j ≤ k → tens j ≤ tens k
-tens_rise j zero h = let e : j ≡ 0 = omega arith in rw e (omega arith)
-tens_rise j (suc k) h =
-    tested (ltb k j)
-    (λ t. let e : j ≡ suc k = omega (arith, ltb-true k j t) in rw e (omega arith))
-    (λ t. omega (arith, tens_rise j k (ltb-false k j t)))
-
 -- Before the last place a number has a digit exactly where it is not below the power of the place.
 pub digit_none : (k n : ℕ) → 1 ≤ k → n < tens k → digit_at k n ≡ []
 unfolding digit_at
@@ -34,14 +27,6 @@ pub digit_some : (k n : ℕ) → tens k ≤ n → digit_at k n ≡ figure (n / t
 unfolding digit_at
 digit_some zero n l = ap (λ q. figure (q % 10)) (omega arith)
 digit_some (suc k) n l = rw (le-ltb n (tens (suc k)) l)
-
-pub digit_few : (k n : ℕ) → length (digit_at k n) ≤ 1
-unfolding digit_at
-digit_few zero n = omega arith
-digit_few (suc k) n =
-    tested (ltb n (tens (suc k)))
-    (λ e. omega (arith, ap length (digit_none (suc k) n (omega arith) (ltb-true n (tens (suc k)) e))))
-    (λ e. omega (arith, ap length (digit_some (suc k) n (ltb-false n (tens (suc k)) e))))
 
 -- The digits of a number, and none of 0.
 abbrev head : ℕ → List ℕ
@@ -107,24 +92,6 @@ from_split (suc i) j low n =
 
 pub from-length : (i j low n : ℕ) → length (digits_from low (i + j) n) ≡ length (digits_from (low + i) j n) + length (digits_from low i n)
 from-length i j low n = ap length (from_split i j low n) ∙ length-append (digits_from (low + i) j n) (digits_from low i n)
-
-pub from_few : (many low n : ℕ) → length (digits_from low many n) ≤ many
-unfolding digits_from
-from_few zero low n = omega arith
-from_few (suc many) low n = omega (arith, length-append (digits_from (suc low) many n) (digit_at low n), from_few many (suc low) n, digit_few low n)
-
-pub three_length : (low n : ℕ) → length (digits_from low 3 n) ≡ length (digit_at low n) + length (digit_at (low + 1) n) + length (digit_at (low + 2) n)
-unfolding digits_from
-three_length low n =
-    let one : low + 1 ≡ suc low = omega arith in
-    let two : low + 2 ≡ suc (suc low) = omega arith in
-    rw (one, two)
-    (omega (arith, length-append (digit_at (suc (suc low)) n ++ digit_at (suc low) n) (digit_at low n), length-append (digit_at (suc (suc low)) n) (digit_at (suc low) n)))
-
--- At ten places: one digit at the last, and those at the nine before it, three by three.
-pub ten_length : (n : ℕ) → n < tens 10 → length (digits n) ≡ 1 + length (digits_from 1 3 n) + length (digits_from 4 3 n) + length (digits_from 7 3 n)
-unfolding digits_from digit_at
-ten_length n h = omega (arith, ap length (by_places 10 n (omega arith) h), from-length 1 9 0 n, from-length 3 6 1 n, from-length 3 3 4 n)
 
 -- At the two highest places of a 64-bit number. The highest power fits at most once.
 module _ (n : ℕ) where

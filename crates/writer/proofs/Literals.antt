@@ -8,7 +8,7 @@ use lib.ListN.{length, get_or, take}
 use Rattle.dimacs.specs.Writing.{item, items}
 use Rattle.decimals.specs.Pieces.{PutAt}
 use Rattle.decimals.proofs.Pieces.{put_keeps_length, put_nothing, put_then}
-use Rattle.measures.proofs.Literals.{items_next, items_all, items_some}
+use Rattle.measures.proofs.Literals.{items_next, items_some}
 use Rattle.writer.proofs.Pieces.{put_before}
 
 -- The first literals are put.
@@ -30,6 +30,3 @@ module _ {at : ℕ} {lits : List ℤ} {old out : List ℕ} {place i : ℕ} (h : 
 
   pub listed_more : {new : List ℕ} {r : ℕ} → i < length lits → PutAt place (item (get_or lits i (pos 0))) out new r → Listed at lits old new r (i + 1)
   listed_more l k = record { puts = rw (items_next lits i l) (put_then h.puts k) }
-
-  pub listed_all : length lits ≤ i → PutAt at (items lits) old out place
-  listed_all l = rw (items_all lits i l) at h.puts

@@ -1,16 +1,25 @@
--- `decimals::count_ten` meets its contract: one digit at the last place, and those at the nine before it. Assumes nothing.
+-- `decimals::count_ten` meets its contract: each power that fits is one digit more. Assumes nothing.
+use mathlib.Core.Path.{◌≡◌, ap, ◌∙◌}
 use native.Mathlib.Omega.{arith}
-use Rattle.decimals.proofs.Places.{from_few, ten_length}
+use borrow.Author.Tests.{leb-true, leb-false}
+use lib.Dec.{leb}
+use mir.Val.{bool_byte}
+use Rattle.dimacs.proofs.Tests.{tested}
+use Rattle.decimals.proofs.Digits.{digits_bounded, digits_below, digits_above}
 use Rattle.decimals.proofs.count_ten.Goals as goal
 
-pub overflow_add-result : goal.overflow_add-result
-overflow_add-result c = record { fits = omega (arith, c.count_three.ensures, from_few 3 1 c.args.n) }
+pub loop-k-init : goal.loop-k-init
+loop-k-init c = omega (arith, digits_bounded c.args.n)
 
-pub overflow_add-result-2 : goal.overflow_add-result-2
-overflow_add-result-2 c = let n = c.args.n in record { fits = omega (arith, c.count_three-2.ensures, c.count_three.ensures, from_few 3 1 n, from_few 3 4 n) }
-
-pub overflow_add-result-3 : goal.overflow_add-result-3
-overflow_add-result-3 c = let n = c.args.n in record { fits = omega (arith, c.count_three-3.ensures, c.count_three-2.ensures, c.count_three.ensures, from_few 3 1 n, from_few 3 4 n, from_few 3 7 n) }
+pub loop-k-preserved : goal.loop-k-preserved
+loop-k-preserved c =
+    let n = c.args.n in
+    let k = c.loop-k.k in
+    tested (leb c.power.result n)
+    (λ t. let one : c.from-count.result ≡ 1 = c.from-count.ensures ∙ ap bool_byte t in
+    omega (arith, one, c.loop-k.invariant, digits_above k n (omega (arith, c.power.ensures, leb-true c.power.result n t))))
+    (λ t. let none : c.from-count.result ≡ 0 = c.from-count.ensures ∙ ap bool_byte t in
+    omega (arith, none, c.loop-k.invariant, digits_below k n c.loop-k.auto.k (omega (arith, c.power.ensures, leb-false c.power.result n t))))
 
 pub returns : goal.returns
-returns c = omega (arith, c.count_three-3.ensures, c.count_three-2.ensures, c.count_three.ensures, ten_length c.args.n c.requires)
+returns c = omega (arith, c.loop-k.invariant, digits_below 10 c.args.n (omega arith) c.requires)

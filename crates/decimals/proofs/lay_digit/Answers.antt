@@ -5,8 +5,8 @@ use native.Mathlib.Nat.{mod-lt}
 use native.Mathlib.Omega.{arith}
 use lib.ListN.{length}
 use Rattle.decimals.specs.Places.{tens}
-use Rattle.decimals.proofs.Digits.{tens_some}
-use Rattle.decimals.proofs.Places.{tens_next, tens_rise, digit_some}
+use Rattle.decimals.proofs.Digits.{tens_some, tens_rise}
+use Rattle.decimals.proofs.Places.{tens_next, digit_some}
 use Rattle.decimals.proofs.Laying.{lays_none, lays_digit}
 use Rattle.decimals.proofs.lay_digit.Goals as goal
 
