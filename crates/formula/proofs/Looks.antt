@@ -3,7 +3,6 @@ use Prim.Native.Nat.{ℕ}
 use mathlib.Core.Bool.{Bool, true, false, cond, not, ◌&&◌}
 use mathlib.Core.List.{List}
 use mathlib.Core.Path.{◌≡◌, refl}
-use native.Mathlib.Omega.{arith}
 use lib.Dec.{eqb, leb}
 use lib.ListN.{length}
 use lib.IntN.{ℤ}
@@ -19,19 +18,16 @@ use Rattle.clause.specs.declared.Answered.{Answered}
 use Rattle.clause.proofs.Finishes.{instead_answers}
 use Rattle.formula.specs.Cursors.{reached, absence_of}
 
-unlike : {X : Type 0} {a : Bool} → a ≡ true → a ≡ false → X
-unlike p q = let z : ◌≡◌ {A = ℕ} 0 1 = cc in absurd (omega arith)
-
 module _ {X : Type 0} (f : Absence → X) (x : X) where
   -- A count that is not 0 and is reached.
   chosen_reached : (a b : Bool) → (not a && b) ≡ true → cond a (f MayEnd) (cond b x (f NoClause)) ≡ x
-  chosen_reached true b h = unlike h refl
+  chosen_reached true b h = cc
   chosen_reached false true h = refl
-  chosen_reached false false h = unlike h refl
+  chosen_reached false false h = cc
 
   chosen_open : (a b : Bool) → (not a && b) ≡ false → cond a (f MayEnd) (cond b x (f NoClause)) ≡ f (cond a MayEnd NoClause)
   chosen_open true b h = refl
-  chosen_open false true h = unlike refl h
+  chosen_open false true h = cc
   chosen_open false false h = refl
 
 module _ (s : List ℕ) (f : Format) (limits : Limits) (count place : ℕ) (old : List ℤ) {at : ℕ} (there : at ≡ lines s (blanks s place)) where

@@ -6,10 +6,10 @@
 ghost use Rattle.std.specs.Prelude.{◌≡◌, length};
 ghost use Rattle.dimacs.specs.Names.{own_room};
 ghost use Rattle.dimacs.specs.Lined.{lined};
-ghost use Rattle.dimacs.specs.Texts.{progress, next_clause, settled_by};
+ghost use Rattle.dimacs.specs.Texts.{progress, next_clause};
 ghost use Rattle.token.specs.Words.{WordAt};
 ghost use Rattle.clause.specs.Answers.{Answers};
-ghost use Rattle.formula.specs.Cursors.{cursor_of, opened_as, opened, unknown, answer_from, reached, absence_of, last_of, settled_as, Steps};
+ghost use Rattle.formula.specs.Cursors.{cursor_of, opened_as, opened, unknown, answer_from, reached, absence_of, settled_as, Steps};
 ghost use Rattle.formula.specs.Whole.{outcome_from, outcome_in};
 
 use clause::{Answered, Next};
@@ -128,29 +128,6 @@ fn absence_of(most: u64) -> Absence
     }
 }
 
-// The end and a refusal are final.
-fn final_of(answer: Next) -> Option<Result<(), Refusal>>
-    ensures { result ≡ last_of answer }
-{
-    match answer {
-        Ok(Some(_)) => None,
-        Ok(None) => Some(Ok(())),
-        Err(stopped) => Some(Err(stopped.refusal)),
-    }
-}
-
-// How far a text is read after so many clauses and an answer at a place. A clause is counted.
-fn settled(count: u64, place: usize, last: Option<Result<(), Refusal>>) -> Progress
-    ensures { result ≡ settled_by count place last }
-{
-    let count = if last.is_none() {
-        count.saturating_add(1)
-    } else {
-        count
-    };
-    Progress { place, count, last }
-}
-
 impl Cursor {
     // The next answer while there is no final one.
     fn look(self, text: &[u8], lits: &mut [i32]) -> Answered
@@ -195,14 +172,24 @@ impl Cursor {
         }
     }
 
-    // The cursor after an answer.
+    // The cursor after an answer at a place. A clause is counted; the end and a refusal are final.
     fn settle(self, a: Answered) -> Stepped
         ensures { result ≡ settled_as self a }
     {
+        let before = self.progress.count;
+        let (count, last) = match a.answer {
+            Ok(Some(_)) => (before.saturating_add(1), None),
+            Ok(None) => (before, Some(Ok(()))),
+            Err(stopped) => (before, Some(Err(stopped.refusal))),
+        };
         Stepped {
             answer: a.answer,
             cursor: Cursor {
-                progress: settled(self.progress.count, a.place, final_of(a.answer)),
+                progress: Progress {
+                    place: a.place,
+                    count,
+                    last,
+                },
                 ..self
             },
         }
@@ -242,6 +229,7 @@ fn read_on(text: &[u8], from: Cursor) -> Result<(), Refusal>
 }
 
 // The whole text in a format and a mode: read to its end, or its refusal.
+#[tactic(auto, using(crate::proofs::Runs::opened_outcome))]
 pub fn read_text(text: &[u8], format: Format, mode: Mode) -> Result<(), Refusal>
     ensures { result ≡ outcome_in format mode text.now }
 {
