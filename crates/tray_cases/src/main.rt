@@ -6,321 +6,228 @@
 // Where a read fails, `unreadable` is the last line.
 #![tactic(auto)]
 
-ghost use Rattle.std.specs.Prelude.{◌≤◌};
-
-use console::{Taken, print, stop, take};
-use dimacs::{Format, LARGEST};
-use lines::{number, upto, word};
+use console::{Shortfall, print, stop, take};
+use dimacs::{Format, LARGEST, Reason};
+use frame::{u8_at, u32_at, u64_at};
+use lines::{Page, Words, first};
+use service::Part;
 use std::io::{Stdin, Stdout};
-use tray::{Front, PutAnswer, Tray, TurnAnswer, WithdrawAnswer};
+use tray::{Told, Tray};
 use tray_lines::said_words;
 
-// The most bytes that a call has after its kind.
-const LONGEST: usize = 18;
+// The longest area.
+const AREA: usize = 65536;
+
+// The most literals.
+const LITERALS: usize = 4096;
 
 // More bytes than a line has, with 1,024 literals of at most eleven bytes and a space.
 const PAGE: usize = 16384;
 
-// A text to be put.
-#[derive(Clone, Copy)]
-struct Put {
-    format: u8,
-    mode: u8,
-    start: usize,
-    length: usize,
-}
-
-// A call as the input has it, or none that can be made.
-#[derive(Clone, Copy)]
+// A call as the input has it.
+#[derive(Clone, Copy, Debug, PartialEq, Eq)]
 enum Call {
-    Put(Put),
+    Put { format: u8, mode: u8, part: Part },
     Turn { lent: usize, room: usize },
     Withdraw(u64),
     Change { at: usize, byte: u8 },
-    Nothing,
 }
 
-fn put_of(frame: &[u8]) -> Call {
-    Call::Put(Put {
-        format: frame::u8_at(frame, 0),
-        mode: frame::u8_at(frame, 1),
-        start: frame::u64_at(frame, 2) as usize,
-        length: frame::u64_at(frame, 10) as usize,
+fn take_put(stdin: &mut Stdin) -> Result<Call, Shortfall> {
+    let mut frame = [0; 18];
+    take(stdin, &mut frame)?;
+    Ok(Call::Put {
+        format: u8_at(&frame, 0),
+        mode: u8_at(&frame, 1),
+        part: Part {
+            start: u64_at(&frame, 2) as usize,
+            length: u64_at(&frame, 10) as usize,
+        },
     })
 }
 
-fn turn_of(frame: &[u8]) -> Call {
-    Call::Turn {
-        lent: frame::u32_at(frame, 0) as usize,
-        room: frame::u32_at(frame, 4) as usize,
+fn take_turn(stdin: &mut Stdin) -> Result<Call, Shortfall> {
+    let mut frame = [0; 8];
+    take(stdin, &mut frame)?;
+    Ok(Call::Turn {
+        lent: u32_at(&frame, 0) as usize,
+        room: u32_at(&frame, 4) as usize,
+    })
+}
+
+fn take_withdraw(stdin: &mut Stdin) -> Result<Call, Shortfall> {
+    let mut frame = [0; 8];
+    take(stdin, &mut frame)?;
+    Ok(Call::Withdraw(u64_at(&frame, 0)))
+}
+
+fn take_change(stdin: &mut Stdin) -> Result<Call, Shortfall> {
+    let mut frame = [0; 5];
+    take(stdin, &mut frame)?;
+    Ok(Call::Change {
+        at: u32_at(&frame, 0) as usize,
+        byte: u8_at(&frame, 4),
+    })
+}
+
+// The next call, or none at the input's end. After one of no kind it is not known where the next begins, so that none follows it.
+fn next_call(stdin: &mut Stdin, out: &mut Stdout) -> Result<Option<Call>, Shortfall> {
+    let mut kind = [0; 1];
+    match take(stdin, &mut kind) {
+        Ok(()) => {}
+        Err(Shortfall::Part(_)) => return Ok(None),
+        Err(Shortfall::Failed) => return Err(Shortfall::Failed),
     }
-}
-
-fn change_of(frame: &[u8]) -> Call {
-    Call::Change {
-        at: frame::u32_at(frame, 0) as usize,
-        byte: frame::u8_at(frame, 4),
-    }
-}
-
-// Where the next call begins after one of no kind is not known.
-fn unknown(stdout: &mut Stdout) -> Call {
-    print(stdout, b"unknown\n");
-    Call::Nothing
-}
-
-// After what did not come whole no call is made.
-fn stopped(stdout: &mut Stdout, taken: Taken) -> Call {
-    stop(stdout, taken);
-    Call::Nothing
-}
-
-// How many bytes follow the kind of a call.
-fn size(kind: u8) -> usize
-    ensures { result ≤ 18 }
-{
-    match kind {
-        0 => LONGEST,
-        1 => 8,
-        2 => 8,
-        3 => 5,
-        _ => 0,
-    }
-}
-
-// The call that these bytes are.
-fn call_of(stdout: &mut Stdout, kind: u8, frame: &[u8; LONGEST]) -> Call {
-    match kind {
-        0 => put_of(frame),
-        1 => turn_of(frame),
-        2 => Call::Withdraw(frame::u64_at(frame, 0)),
-        3 => change_of(frame),
-        _ => unknown(stdout),
-    }
-}
-
-// The bytes that follow a kind, and the call that they are. One that the input's end cuts off is not made.
-fn call_of_kind(stdin: &mut Stdin, stdout: &mut Stdout, kind: u8) -> Call {
-    let mut frame = [0u8; LONGEST];
-    let n = size(kind);
-    let taken = take(stdin, &mut frame[..n]);
-    if let Taken::Whole = taken {
-        return call_of(stdout, kind, &frame);
-    }
-    stopped(stdout, taken)
-}
-
-// The next call, or none at the input's end.
-fn next_call(stdin: &mut Stdin, stdout: &mut Stdout) -> Call {
-    let mut kind = [0u8; 1];
-    let taken = take(stdin, &mut kind);
-    match taken {
-        Taken::Whole => call_of_kind(stdin, stdout, frame::u8_at(&kind, 0)),
-        Taken::Part(_) => Call::Nothing,
-        Taken::Failed => stopped(stdout, taken),
-    }
-}
-
-// The number of a call's own refusal.
-fn call_refused(page: &mut [u8], at: usize, n: u8) -> usize {
-    let past = word(page, at, b" refused");
-    number(page, past, n as u64)
+    let call = match u8_at(&kind, 0) {
+        0 => take_put(stdin)?,
+        1 => take_turn(stdin)?,
+        2 => take_withdraw(stdin)?,
+        3 => take_change(stdin)?,
+        _ => {
+            print(out, b"unknown\n");
+            return Ok(None);
+        }
+    };
+    Ok(Some(call))
 }
 
 // The format of the job at the front. Where none is, the turn is refused and any format does.
 fn front_format(tray: Tray) -> Format {
     match tray::front_job(tray) {
-        Front::Nothing => Format::Plain,
-        Front::Waits(job) => {
-            let stage = job.stage;
-            service::format_of(stage)
-        }
+        Some(job) => job.stage.format(),
+        None => Format::Plain,
     }
-}
-
-// What a turn tells a ticket, or why there was none.
-fn told_words(
-    page: &mut [u8],
-    at: usize,
-    answer: TurnAnswer,
-    format: Format,
-    lits: &[i32],
-) -> usize {
-    match answer {
-        TurnAnswer::Refused(n) => call_refused(page, at, n),
-        TurnAnswer::Told {
-            ticket,
-            said,
-            last: _,
-        } => {
-            let past_ticket = number(page, at, ticket);
-            let past = word(page, past_ticket, b" ");
-            said_words(page, past, said, format, lits, b"", b"", b"", b"")
-        }
-    }
-}
-
-fn turn_line(
-    stdout: &mut Stdout,
-    page: &mut [u8],
-    tray: Tray,
-    area: &[u8],
-    lits: &mut [i32],
-) -> Tray {
-    let format = front_format(tray);
-    let done = tray::turn(tray, area, lits);
-    let answer = done.answer;
-    let at = word(page, 0, b"turn");
-    let past_words = told_words(page, at, answer, format, lits);
-    let past = word(page, past_words, b"\n");
-    print(stdout, upto(page, past));
-    done.tray
-}
-
-// A turn with no more of the area and of the buffer than is to be lent.
-fn lent_turn(
-    stdout: &mut Stdout,
-    page: &mut [u8],
-    tray: Tray,
-    lent: usize,
-    room: usize,
-    area: &[u8],
-    lits: &mut [i32],
-) -> Tray {
-    let most = frame::smaller(lent, area.len());
-    let count = frame::smaller(room, lits.len());
-    turn_line(stdout, page, tray, &area[..most], &mut lits[..count])
-}
-
-fn put_words(page: &mut [u8], at: usize, answer: PutAnswer) -> usize {
-    match answer {
-        PutAnswer::Refused(n) => call_refused(page, at, n),
-        PutAnswer::Ticket(ticket) => number(page, at, ticket),
-    }
-}
-
-fn put_line(stdout: &mut Stdout, page: &mut [u8], tray: Tray, put: Put, area: &[u8]) -> Tray {
-    let done = tray::put(tray, put.format, put.mode, put.start, put.length, area);
-    let answer = done.answer;
-    let at = word(page, 0, b"put");
-    let past_words = put_words(page, at, answer);
-    let past = word(page, past_words, b"\n");
-    print(stdout, upto(page, past));
-    done.tray
-}
-
-fn withdraw_words(page: &mut [u8], at: usize, answer: WithdrawAnswer) -> usize {
-    match answer {
-        WithdrawAnswer::Refused(n) => call_refused(page, at, n),
-        WithdrawAnswer::Withdrawn(ticket) => number(page, at, ticket),
-    }
-}
-
-fn withdraw_line(stdout: &mut Stdout, page: &mut [u8], tray: Tray, ticket: u64) -> Tray {
-    let done = tray::withdraw(tray, ticket);
-    let answer = done.answer;
-    let at = word(page, 0, b"withdraw");
-    let past_words = withdraw_words(page, at, answer);
-    let past = word(page, past_words, b"\n");
-    print(stdout, upto(page, past));
-    done.tray
 }
 
 // Beyond the area nothing happens.
 fn change(area: &mut [u8], at: usize, byte: u8) {
-    if at < area.len() {
-        area[at] = byte;
+    if let Some(place) = area.get_mut(at) {
+        *place = byte;
     }
 }
 
-fn made(
-    stdout: &mut Stdout,
-    page: &mut [u8],
+// The tray, and where lines are laid and then printed.
+#[derive(Drop)]
+struct Desk<'a> {
     tray: Tray,
-    call: Call,
-    area: &mut [u8],
-    lits: &mut [i32],
-) -> Tray {
-    match call {
-        Call::Put(put) => put_line(stdout, page, tray, put, area),
-        Call::Turn { lent, room } => lent_turn(stdout, page, tray, lent, room, area, lits),
-        Call::Withdraw(ticket) => withdraw_line(stdout, page, tray, ticket),
-        Call::Change { at, byte } => {
-            change(area, at, byte);
-            tray
+    page: Page<'a>,
+    out: &'a mut Stdout,
+}
+
+impl Desk<'_> {
+    fn end_line(&mut self) {
+        self.page.byte(b'\n');
+        self.page.show(self.out);
+    }
+
+    // The number of a call's own refusal.
+    fn refused(&mut self, reason: Reason) {
+        self.page.word(b" refused");
+        self.page.number(u64::from(u8::from(reason)));
+    }
+
+    // What a call says of a ticket.
+    fn ticket_line(&mut self, call: &[u8], answer: Result<u64, Reason>) {
+        self.page.word(call);
+        match answer {
+            Ok(ticket) => self.page.number(ticket),
+            Err(reason) => self.refused(reason),
         }
-        Call::Nothing => tray,
+        self.end_line();
     }
-}
 
-fn calls(
-    stdin: &mut Stdin,
-    stdout: &mut Stdout,
-    page: &mut [u8],
-    area: &mut [u8],
-    lits: &mut [i32],
-) {
-    let mut tray = tray::empty();
-    let mut count: u64 = 0;
-    while count < LARGEST {
-        let call = next_call(stdin, stdout);
-        if let Call::Nothing = call {
-            return;
+    fn put(&mut self, format: u8, mode: u8, part: Part, area: &[u8]) {
+        let done = tray::put(self.tray, format, mode, part, area);
+        self.tray = done.tray;
+        self.ticket_line(b"put", done.answer);
+    }
+
+    fn withdraw(&mut self, ticket: u64) {
+        let done = tray::withdraw(self.tray, ticket);
+        self.tray = done.tray;
+        self.ticket_line(b"withdraw", done.answer);
+    }
+
+    // What a turn tells a ticket, whose format is that of the job at the front before it.
+    fn told(&mut self, told: Told, format: Format, lits: &[i32]) {
+        self.page.number(told.ticket);
+        self.page.byte(b' ');
+        said_words(&mut self.page, told.said, format, lits, &Words::NONE);
+    }
+
+    fn turn(&mut self, area: &[u8], lits: &mut [i32]) {
+        let format = front_format(self.tray);
+        let done = tray::turn(self.tray, area, lits);
+        self.tray = done.tray;
+        self.page.word(b"turn");
+        match done.answer {
+            Ok(told) => self.told(told, format, lits),
+            Err(reason) => self.refused(reason),
         }
-        tray = made(stdout, page, tray, call, area, lits);
-        count += 1;
+        self.end_line();
+    }
+
+    // A turn is lent no more of the area and of the literals than it asks for.
+    fn make(&mut self, call: Call, area: &mut [u8], lits: &mut [i32]) {
+        match call {
+            Call::Put { format, mode, part } => self.put(format, mode, part, area),
+            Call::Turn { lent, room } => {
+                let room = room.min(lits.len());
+                self.turn(first(area, lent), &mut lits[..room]);
+            }
+            Call::Withdraw(ticket) => self.withdraw(ticket),
+            Call::Change { at, byte } => change(area, at, byte),
+        }
+    }
+
+    fn calls(
+        &mut self,
+        stdin: &mut Stdin,
+        area: &mut [u8],
+        lits: &mut [i32],
+    ) -> Result<(), Shortfall> {
+        for _ in 0..LARGEST {
+            let Some(call) = next_call(stdin, self.out)? else {
+                return Ok(());
+            };
+            self.make(call, area, lits);
+        }
+        Ok(())
     }
 }
 
-// The area's bytes, and the calls.
-fn area_calls(
-    stdin: &mut Stdin,
-    stdout: &mut Stdout,
-    page: &mut [u8],
-    area: &mut [u8],
-    lits: &mut [i32],
-) {
-    let taken = take(stdin, area);
-    if let Taken::Whole = taken {
-        return calls(stdin, stdout, page, area, lits);
+// The calls on an area of this length.
+fn sized_calls(stdin: &mut Stdin, out: &mut Stdout, length: usize) -> Result<(), Shortfall> {
+    let mut area = [0; AREA];
+    if AREA < length {
+        print(out, b"too long\n");
+        return Ok(());
     }
-    stop(stdout, taken);
+    let area = &mut area[..length];
+    take(stdin, area)?;
+    let mut lits = [0; LITERALS];
+    let mut bytes = [0; PAGE];
+    let page = Page {
+        bytes: &mut bytes,
+        at: 0,
+    };
+    let mut desk = Desk {
+        tray: tray::empty(),
+        page,
+        out,
+    };
+    desk.calls(stdin, area, &mut lits)
 }
 
-// The same with an area of this length, if there is so much of it.
-fn sized_calls(
-    stdin: &mut Stdin,
-    stdout: &mut Stdout,
-    length: usize,
-    page: &mut [u8],
-    area: &mut [u8],
-    lits: &mut [i32],
-) {
-    if area.len() < length {
-        print(stdout, b"too long\n");
-        return;
-    }
-    area_calls(stdin, stdout, page, &mut area[..length], lits)
+// The area's length, its bytes, and the calls.
+fn all_calls(stdin: &mut Stdin, out: &mut Stdout) -> Result<(), Shortfall> {
+    let mut size = [0; 4];
+    take(stdin, &mut size)?;
+    sized_calls(stdin, out, u32_at(&size, 0) as usize)
 }
 
 fn main(rt: HostRuntime) {
-    let mut stdin = rt.stdin();
     let mut stdout = rt.stdout();
-    let mut area = [0u8; 65536];
-    let mut lits = [0i32; 4096];
-    let mut page = [0u8; PAGE];
-    let mut size = [0u8; 4];
-    let taken = take(&mut stdin, &mut size);
-    if let Taken::Whole = taken {
-        let length = frame::u32_at(&size, 0) as usize;
-        return sized_calls(
-            &mut stdin,
-            &mut stdout,
-            length,
-            &mut page,
-            &mut area,
-            &mut lits,
-        );
-    }
-    stop(&mut stdout, taken);
+    let ended = all_calls(&mut rt.stdin(), &mut stdout);
+    stop(&mut stdout, ended);
 }
