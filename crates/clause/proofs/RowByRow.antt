@@ -1,11 +1,12 @@
 -- The loop over the rows of a clause: the literals read so far stand first in the buffer, and what is read from here on is what is read from
 -- the start. Assumes nothing.
 use Prim.Native.Nat.{ℕ, ◌-◌, ◌≤◌, ◌<◌}
-use mathlib.Core.List.{List, [], ◌∷◌, ◌++◌}
+use mathlib.Core.List.{List, ◌++◌}
 use mathlib.Core.Path.{◌≡◌, refl, ap, sym, ◌∙◌, subst}
 use native.Mathlib.Omega.{arith}
 use lib.ListN.{length, take}
 use lib.IntN.{ℤ}
+use Rattle.std.proofs.lemmas.List.{nil_from_length}
 use Rattle.std.specs.Prelude.{Some, None, Result, Ok, Err}
 use Rattle.dimacs.specs.Names.{refusal}
 use Rattle.dimacs.specs.declared.Reason.{Reason}
@@ -85,17 +86,13 @@ module _ {s : List ℕ} {limit at : ℕ} {old lits : List ℤ} {from held : ℕ}
       n : length (take held lits) ≡ held
       n = kept_count h.kept
 
-      empty : (so : List ℤ) → length so ≡ 0 → so ≡ []
-      empty [] e = refl
-      empty (x ∷ so) e = absurd (omega arith)
-
       go : (d : def.Row) → the_row ≡ d → new ≡ laid (read_by d) lits → AfterRow new (row_of d)
       go (def.closes p so) e b = let f = h.so_far ∙ closed_by s limit (length old) here e in record { answer = rw f; buffer = rw f (over (def.closes p so) e b) }
       go (def.stops x so) e b = let f = h.so_far ∙ stopped_by s limit (length old) here e in record { answer = rw f; buffer = rw f (over (def.stops x so) e b) }
       go (def.ends p so) e b =
           record {
             none = λ z. let f = h.so_far ∙ nothing_there s limit (length old) here e z in
-                record { answer = rw f; buffer = rw f (rw (empty so z) at (over (def.ends p so) e b)) };
+                record { answer = rw f; buffer = rw f (rw (nil_from_length so z) at (over (def.ends p so) e b)) };
             after_lines = λ z k x is. let f = h.so_far ∙ none_after_lines s limit (length old) here e z (k ∙ sym n) in
                 record { answer = rw (f, is); buffer = rw f (over (def.ends p so) e b) };
             on_line = λ z k q is l x y. let f = h.so_far ∙ none_on_line s limit (length old) here e z (λ j. k (j ∙ n)) q is l in

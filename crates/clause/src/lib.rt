@@ -1,4 +1,5 @@
 // A clause of each format, read into a lent buffer of literals: how it begins, its literals, and how it ends.
+// A text and what ends its lines go side by side, and in no struct, since `token` and `numeral` read words and numbers from the text alone.
 #![tactic(auto)]
 
 ghost use Rattle.std.specs.Prelude.{◌≡◌, length};

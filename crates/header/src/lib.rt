@@ -1,4 +1,5 @@
 // The opening of a text of clauses: its header, if it has one, and the limits that the header sets.
+// A text and what ends its lines go side by side, and in no struct, since `token` and `numeral` read words and numbers from the text alone.
 #![tactic(auto)]
 
 ghost use Rattle.std.specs.Prelude.{◌≡◌, ◌≤◌};
