@@ -4,10 +4,13 @@
 #![tactic(auto)]
 
 ghost use Rattle.latchtwig.specs.Outcomes.{outcome, words_told};
-ghost use Rattle.pages.specs.Pages.{Lays};
+ghost use Rattle.pages.specs.Pages.{Laid};
 ghost use Rattle.host_cases.specs.Answers.{printed_numbers, outcome_line};
 
-use console::Taken;
+use cases::Cases;
+use console::{Shortfall, take};
+use frame::u32_at;
+use pages::Page;
 use std::io::{Stdin, Stdout};
 
 // The bytes of a frame before its text.
@@ -20,116 +23,68 @@ const TEXT: usize = 4096;
 const PAGE: usize = 128;
 
 // Each number after a space.
-fn numbers(page: &mut [u8], at: usize, words: [u64; 4]) -> usize
-    ensures { Lays at (printed_numbers words) page.old page.new result }
+fn numbers(page: &mut Page, words: [u64; 4])
+    ensures { Laid (printed_numbers words) page.old page.new }
 {
-    let past_number = pages::number(page, at, words[0]);
-    let past_place = pages::number(page, past_number, words[1]);
-    let past_line = pages::number(page, past_place, words[2]);
-    pages::number(page, past_line, words[3])
+    page.number(words[0]);
+    page.number(words[1]);
+    page.number(words[2]);
+    page.number(words[3]);
 }
 
 // What `latchtwig_check` leaves of a text.
-fn checked_words(page: &mut [u8], at: usize, format: u32, mode: u32, text: &[u8]) -> usize
-    ensures { Lays at (printed_numbers (words_told text.now (outcome format mode text.now))) page.old page.new result }
+fn checked_words(page: &mut Page, format: u32, mode: u32, text: &[u8])
+    ensures { Laid (printed_numbers (words_told text.now (outcome format mode text.now))) page.old page.new }
 {
     let mut answer = [0u64; 4];
     latchtwig::latchtwig_check(format, mode, text, &mut answer);
-    numbers(page, at, answer)
+    numbers(page, answer);
 }
 
 // What the host calls say of a text.
-fn outcome_line(page: &mut [u8], at: usize, format: u32, mode: u32, text: &[u8]) -> usize
-    ensures { Lays at (outcome_line text.now (outcome format mode text.now)) page.old page.new result }
+fn outcome_line(page: &mut Page, format: u32, mode: u32, text: &[u8])
+    ensures { Laid (outcome_line text.now (outcome format mode text.now)) page.old page.new }
 {
-    let number = latchtwig::latchtwig_refusal(format, mode, text);
-    let place = latchtwig::latchtwig_place(format, mode, text);
-    let past_number = pages::plain_number(page, at, number as u64);
-    let past_place = pages::number(page, past_number, place);
-    let past_checked = checked_words(page, past_place, format, mode, text);
-    pages::word(page, past_checked, b"\n")
+    page.plain_number(u64::from(latchtwig::latchtwig_refusal(format, mode, text)));
+    page.number(latchtwig::latchtwig_place(format, mode, text));
+    checked_words(page, format, mode, text);
+    page.byte(b'\n');
 }
 
-// What a frame says before its text.
-#[derive(Clone, Copy)]
-struct Head {
-    format: u32,
-    mode: u32,
-    length: usize,
+// The host calls, and the page for a line.
+#[derive(Drop)]
+struct Host {
+    page: [u8; PAGE],
 }
 
-fn head_of(frame: &[u8]) -> Head {
-    Head {
-        format: frame::u32_at(frame, 0),
-        mode: frame::u32_at(frame, 4),
-        length: frame::u32_at(frame, 8) as usize,
-    }
-}
-
-// The rest of a case whose text fills the slice lent, and whether another may follow.
-fn case(
-    stdin: &mut Stdin,
-    stdout: &mut Stdout,
-    page: &mut [u8],
-    head: Head,
-    text: &mut [u8],
-) -> bool {
-    let taken = console::take(stdin, text);
-    let Taken::Whole = taken else {
-        return console::stop(stdout, taken);
-    };
-    let past = outcome_line(page, 0, head.format, head.mode, text);
-    console::print(stdout, pages::upto(page, past));
-    true
-}
-
-// The rest of a case, and whether another may follow.
-fn framed(
-    stdin: &mut Stdin,
-    stdout: &mut Stdout,
-    page: &mut [u8],
-    head: Head,
-    text: &mut [u8],
-) -> bool {
-    let length = head.length;
-    if text.len() < length {
-        console::print(stdout, b"cut\n");
-        return false;
-    }
-    case(stdin, stdout, page, head, &mut text[..length])
-}
-
-// A frame that is cut off, if any of it came.
-fn cut(stdout: &mut Stdout, got: usize) -> bool {
-    if got == 0 {
-        return false;
-    }
-    console::stop(stdout, Taken::Part(got))
-}
-
-// One case, and whether another may follow.
-fn one(stdin: &mut Stdin, stdout: &mut Stdout, page: &mut [u8], text: &mut [u8]) -> bool {
-    let mut frame = [0u8; HEAD];
-    let taken = console::take(stdin, &mut frame);
-    match taken {
-        Taken::Whole => framed(stdin, stdout, page, head_of(&frame), text),
-        Taken::Part(got) => cut(stdout, got),
-        Taken::Failed => console::stop(stdout, taken),
-    }
-}
-
-fn cases(stdin: &mut Stdin, stdout: &mut Stdout, page: &mut [u8], text: &mut [u8]) {
-    for _ in 0..u64::MAX {
-        if !one(stdin, stdout, page, text) {
-            return;
+impl Cases<Stdin, Stdout> for Host {
+    // A text that is longer than is taken is told as one that is cut off.
+    fn answer(
+        &mut self,
+        stdin: &mut Stdin,
+        stdout: &mut Stdout,
+        frame: &[u8],
+    ) -> Result<(), Shortfall> {
+        let length = u32_at(frame, 8) as usize;
+        if TEXT < length {
+            return Err(Shortfall::Part(0));
         }
+        let mut bytes = [0u8; TEXT];
+        let text = &mut bytes[..length];
+        take(stdin, text)?;
+        let mut page = Page {
+            bytes: &mut self.page,
+            at: 0,
+        };
+        outcome_line(&mut page, u32_at(frame, 0), u32_at(frame, 4), text);
+        page.show(stdout);
+        Ok(())
     }
 }
 
 fn main(rt: HostRuntime) {
-    let mut stdin = rt.stdin();
+    let mut host = Host { page: [0; PAGE] };
     let mut stdout = rt.stdout();
-    let mut page = [0u8; PAGE];
-    let mut text = [0u8; TEXT];
-    cases(&mut stdin, &mut stdout, &mut page, &mut text);
+    let answered = cases::answers(&mut host, &mut rt.stdin(), &mut stdout, &mut [0; HEAD]);
+    console::stop(&mut stdout, answered);
 }
