@@ -50,15 +50,14 @@ pub fn around_length(format: Format, extra: u64) -> usize
     }
 }
 
-// What a header begins with, up to its word.
-pub fn header_start(format: Format) -> &'static [u8]
-    ensures { result.now ≡ header_start format }
+// How long what a header begins with is.
+fn start_length(format: Format) -> usize
+    ensures { result ≡ length (header_start format) }
 {
     match format {
-        Format::Plain => b"p cnf",
-        Format::Weighted => b"p wcnf",
-        Format::Grouped => b"p gcnf",
-        Format::Weighted2022 => b"p ",
+        Format::Plain => 5,
+        Format::Weighted | Format::Grouped => 6,
+        Format::Weighted2022 => 2,
     }
 }
 
@@ -80,5 +79,5 @@ pub fn header_length(format: Format, header: Header) -> usize
     ensures { result ≡ length (header_line format header) }
 {
     let counts = digit_count(header.variables) + digit_count(header.clauses);
-    counts + header_start(format).len() + third_length(format, header.third) + 3
+    counts + start_length(format) + third_length(format, header.third) + 3
 }

@@ -9,11 +9,12 @@ ghost use Rattle.dimacs.specs.Names.{call_refusal};
 ghost use Rattle.dimacs.specs.Writing.{items, lead, third_digits, header_line, clause_line, write_header, write_line, write_clause, write_hard_clause};
 ghost use Rattle.dimacs.specs.declared.Format.{Format};
 ghost use Rattle.decimals.specs.Pieces.{PutAt, if_room};
+ghost use Rattle.measures.specs.Lines.{header_start};
 ghost use Rattle.writer.specs.Answers.{Writes};
 
 use decimals::{put_digits, put_digits_after, put_literal};
 use dimacs::{CEILING, Format, HARD, Header, Reason, Refusal, refuse_call};
-use measures::{around_length, header_length, header_start, left_after, writable};
+use measures::{around_length, header_length, left_after, writable};
 
 // Literals, each with the space after it.
 fn put_literals(out: &mut [u8], at: usize, lits: &[i32]) -> usize
@@ -131,6 +132,19 @@ pub fn write_hard_clause(format: Format, lits: &[i32], out: &mut [u8]) -> Result
     write_line(format, HARD, lits, out)
 }
 
+// What a header begins with, up to its word. The words stand in the code, and not in a table beside their lengths: a piece of unknown length is copied by C's memcpy, and the library for C needs no function of C but memset.
+fn put_start(out: &mut [u8], format: Format) -> usize
+    requires { length (header_start format) ≤ length out.old }
+    ensures { PutAt 0 (header_start format) out.old out.new result }
+{
+    match format {
+        Format::Plain => put_bytes(out, b"p cnf"),
+        Format::Weighted => put_bytes(out, b"p wcnf"),
+        Format::Grouped => put_bytes(out, b"p gcnf"),
+        Format::Weighted2022 => put_bytes(out, b"p "),
+    }
+}
+
 // The third count, if the format has one.
 fn put_third(out: &mut [u8], at: usize, format: Format, third: u64) -> usize
     ensures { PutAt at (if_room at (third_digits format third) out.old) out.old out.new result }
@@ -146,7 +160,7 @@ fn put_header(out: &mut [u8], format: Format, header: Header) -> usize
     requires { length (header_line format header) ≤ length out.old }
     ensures { PutAt 0 (header_line format header) out.old out.new result }
 {
-    let past_start = put_bytes(out, header_start(format));
+    let past_start = put_start(out, format);
     let past_variables = put_digits_after(out, past_start, b' ', header.variables);
     let past_clauses = put_digits_after(out, past_variables, b' ', header.clauses);
     let past = put_third(out, past_clauses, format, header.third);

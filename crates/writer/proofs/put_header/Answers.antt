@@ -21,22 +21,21 @@ past_third c =
     let third = third_digits f h.third in
     let clauses = header_count h.clauses in
     let variables = header_count h.variables in
-    let past_start = put_before (rw c.header_start.ensures at c.put_bytes-past_start.ensures) (variables ++ (clauses ++ (third ++ bytes "\n"))) (omega (arith, c.requires, ap length (header_to_come f h))) in
+    let past_start = put_before c.put_start-past_start.ensures (variables ++ (clauses ++ (third ++ bytes "\n"))) (omega (arith, c.requires, ap length (header_to_come f h))) in
     let past_variables = then_whole variables (clauses ++ (third ++ bytes "\n")) past_start c.put_digits_after-past_variables.ensures in
     let past_clauses = then_whole clauses (third ++ bytes "\n") past_variables c.put_digits_after-past_clauses.ensures in
     then_whole third (bytes "\n") past_clauses c.put_third-past.ensures
 
-pub put_bytes-past_start-requires : goal.put_bytes-past_start-requires
-put_bytes-past_start-requires c =
+pub put_start-past_start-requires : goal.put_start-past_start-requires
+put_start-past_start-requires c =
     let f = c.args.format in
     let h = c.args.header in
-    rw c.header_start.ensures
-    (omega (
+    omega (
       arith,
       c.requires,
       ap length (header_to_come f h),
       length-append (header_start f) (header_count h.variables ++ (header_count h.clauses ++ (third_digits f h.third ++ bytes "\n"))),
-    ))
+    )
 
 pub bounds-out-past : goal.bounds-out-past
 bounds-out-past c = omega (arith, past_third (goal.at.bounds-out-past c).After-put_third-past)
