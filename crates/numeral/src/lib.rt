@@ -31,7 +31,7 @@ fn digit(b: u8) -> u8
     b ^ b'0'
 }
 
-// Past the run of digits.
+// Past the run of digits. A loop of its own beside token's for blanks: one for both would take the test as a closure that it requires to be callable, and no public function has a `requires`.
 #[tactic(auto, using(dimacs::proofs::Past::past_more, dimacs::proofs::Past::past_stop, dimacs::proofs::Past::past_end, crate::proofs::Runs::digit_there))]
 fn skip_digits(text: &[u8], at: usize) -> usize
     ensures { result ≡ past is_digit text.now at }
