@@ -105,7 +105,7 @@ pub fn next_words(n: Next) -> [u64; NEXT_WORDS]
     }
 }
 
-// The number of a verdict for a host, 0 where no solution line stands.
+// The number of a verdict, 0 where no solution line stands. Only a host's words have it: so it is a function here, and no `From` in the crate of its type.
 fn verdict_kind(v: Option<Verdict>) -> u64
     ensures { result ≡ verdict_kind v }
 {

@@ -79,6 +79,7 @@ pub fn parse_log_as(text: &[u8], mode: Mode, lits: &mut [i32]) -> Result<Accepte
         assignment: Assignment::Unbegun,
         count: 0,
     };
+    // From line to line, and by no iterator, since each line is lent the buffer.
     loop {
         match any_line(text, mode, reading, lits)? {
             Line::Again(next) => reading = next,
