@@ -52,7 +52,7 @@ fn skip_few<R: Read>(input: &mut R, few: usize) -> Result<(), Shortfall>
     take(input, &mut buf[..few])
 }
 
-// Passes over so many bytes.
+// Passes over so many bytes. `left` counts down, since a range in steps of a buffer would still cut its last step short.
 pub fn skip<R: Read>(input: &mut R, length: usize) -> Result<(), Shortfall>
     ensures told { Takes length result }
     ensures bytes { Passes length (R.remaining input.old) (R.remaining input.new) result }
