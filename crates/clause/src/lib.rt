@@ -233,7 +233,7 @@ fn closing(text: &[u8], ends: Ends, closed: Closed, extra: u64) -> Answered
     }
 }
 
-// A clause at a place where no comment and no line end stands.
+// A clause at a place where no comment and no line end stands. By `match` and not by `?`, since an answer has its place beside its Result.
 pub fn clause_at(
     text: &[u8],
     ends: Ends,

@@ -338,7 +338,7 @@ fn empty(stdout: &mut Stdout, page: &mut Page, format: Format) {
     copied(stdout, page, headed(format, 0, 0, 0, &[]));
 }
 
-// Literals that take all the room.
+// Literals that take all the room, each by its index.
 fn longest() -> [i32; ROOM] {
     let mut lits = [0i32; ROOM];
     for i in 0..ROOM {

@@ -11,7 +11,7 @@ use dimacs::{Ends, Format, Limits, Progress, Reason, Refusal, refuse_call};
 use formula::Cursor;
 use numbers::{refusal_of, refusal_words};
 
-// The words of a cursor.
+// The words of a cursor: an array, as C keeps it.
 pub const WORDS: usize = 12;
 
 // Only a host's words have numbers for these three: so each is a function here, and no `From` in the crate of its type.

@@ -233,7 +233,7 @@ pub fn put_digits(out: &mut [u8], at: usize, n: u64) -> usize
     lay_digits(out, at, n)
 }
 
-// A byte, and a number in decimal after it.
+// A byte, and a number in decimal after it: one piece, so that neither is written without the other.
 pub fn put_digits_after(out: &mut [u8], at: usize, byte: u8, n: u64) -> usize
     ensures { PutAt at (if_room at (byte ∷ digits n) out.old) out.old out.new result }
 {

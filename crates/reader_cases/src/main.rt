@@ -17,7 +17,7 @@ use std::io::Stdout;
 // The longest line.
 const PAGE: usize = 65536;
 
-// Where lines are laid and then printed.
+// Where lines are laid and then printed. Each program has one of its own, as methods stand only beside their type.
 #[derive(Drop)]
 struct Printer<'a> {
     page: Page<'a>,

@@ -32,7 +32,7 @@ impl Job {
     }
 }
 
-// The places, the one where the round begins, how many jobs wait from there on, and how many tickets were given.
+// The places, the one where the round begins, how many jobs wait from there on, and how many tickets were given. An array with a head and a count, since no memory is asked for and each call takes any of them.
 #[derive(Clone, Copy, Debug, PartialEq, Eq)]
 pub struct Tray {
     pub jobs: [Job; PLACES],

@@ -47,7 +47,7 @@ fn format_of(head: Head) -> Format {
     }
 }
 
-// Where lines are laid and then printed.
+// Where lines are laid and then printed. Each program has one of its own, as methods stand only beside their type.
 #[derive(Drop)]
 struct Printer<'a> {
     page: Page<'a>,
