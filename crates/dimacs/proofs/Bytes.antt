@@ -45,6 +45,3 @@ is_stop_lf_space b (inr h) = rw (is_blank_lem b (inr h))
 pub is_stop_tab_cr : (b : ℕ) → (b ≡ 9) ⊎ (b ≡ 13) → is_stop b ≡ true
 is_stop_tab_cr b (inl h) = rw (is_blank_lem b (inl h))
 is_stop_tab_cr b (inr h) = or_true (is_blank b) (eqb b 13 || eqb b 10) (rw (eq-eqb b 13 h))
-
-pub no_stop : (b : ℕ) → ((b ≡ 10) ⊎ (b ≡ 32) → ⊥) → ((b ≡ 9) ⊎ (b ≡ 13) → ⊥) → is_stop b ≡ false
-no_stop b h k = rw (ne_eqb b 9 (λ e. k (inl e)), ne_eqb b 32 (λ e. h (inr e)), ne_eqb b 13 (λ e. k (inr e)), ne_eqb b 10 (λ e. h (inl e)))

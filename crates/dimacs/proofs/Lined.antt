@@ -112,12 +112,6 @@ module _ (rule : Ends) where
       pub eqb_lined : eqb (get_or (lined rule s) at 0) b ≡ eqb (get_or s at 0) b
       eqb_lined = rw (lined_byte s at) (alike (λ x. eqb x b) (h ∙ sym k) (get_or s at 0) (get_or s (at + 1) 0))
 
-      pub stands_lined : get_or s at 0 ≡ b → get_or (lined rule s) at 0 ≡ b
-      stands_lined t = eqb-true (get_or (lined rule s) at 0) b (eqb_lined ∙ eq-eqb (get_or s at 0) b t)
-
-      pub lacks_lined : (get_or s at 0 ≡ b → ⊥) → get_or (lined rule s) at 0 ≡ b → ⊥
-      lacks_lined n = eqb-false (get_or (lined rule s) at 0) b (eqb_lined ∙ ne_eqb (get_or s at 0) b n)
-
 module _ (s : List ℕ) (at : ℕ) where
   pub byte_as_is : get_or (lined LineFeed s) at 0 ≡ get_or s at 0
   byte_as_is = ap (λ l. get_or l at 0) (lined_same s)

@@ -1,15 +1,15 @@
 -- Line ends and comments, case by case. Assumes nothing.
-use Rattle.std.specs.Prelude.{None, Some}
+use Rattle.std.specs.Prelude.{Some}
 use Prim.Native.Nat.{ℕ, suc, ◌+◌, ◌-◌, ◌≤◌, ◌<◌}
 use mathlib.Core.Bool.{Bool, true, false, ◌&&◌}
 use mathlib.Core.List.{List}
 use mathlib.Core.Path.{◌≡◌, refl, sym, ◌∙◌}
 use native.Mathlib.Omega.{arith}
-use borrow.Author.Tests.{eq-eqb, ne_eqb, lt-ltb, le-ltb, le-leb, lt-leb, eqb-true}
+use borrow.Author.Tests.{eq-eqb, ne_eqb, lt-ltb, le-ltb, lt-leb, eqb-true}
 use lib.Dec.{eqb}
 use lib.ListN.{length, get_or, get_or-eq_default}
-use Rattle.dimacs.specs.Bytes.{bytes, is_not_lf}
-use Rattle.dimacs.specs.Tokens.{past, blanks, line_end, next_line, end_of_line, fixed, strict_comment, newline, line_past, comment_or_newline, lines, linebreaks}
+use Rattle.dimacs.specs.Bytes.{is_not_lf}
+use Rattle.dimacs.specs.Tokens.{past, blanks, line_end, next_line, end_of_line, newline, line_past, comment_or_newline, lines, linebreaks}
 use Rattle.dimacs.proofs.Bytes.{is_lf}
 use Rattle.dimacs.proofs.Past.{past_stop, past_end}
 use Rattle.dimacs.proofs.Spans.{line_past_moved, lines_step}
@@ -35,23 +35,11 @@ module _ (s : List ℕ) (at : ℕ) where
       no true b h = h refl
       no false b h = refl
 
-  pub end_at_end : length s ≤ at → end_of_line s at ≡ Some at
-  unfolding end_of_line
-  end_at_end h = rw (le-leb (length s) at h)
-
   -- By a line end e that a call found, or did not.
   module _ (e : ℕ) (is : e ≡ line_end s at) where
     pub end_at_line : at < length s → (e ≡ at → ⊥) → end_of_line s at ≡ Some e
     unfolding end_of_line
     end_at_line h n = rw (lt-leb (length s) at h, sym is, ne_eqb e at n)
-
-    pub end_missing : at < length s → e ≡ at → end_of_line s at ≡ None
-    unfolding end_of_line
-    end_missing h n = rw (lt-leb (length s) at h, sym is, eq-eqb e at n)
-
-    pub newline_is : (e ≡ at → ⊥) → newline s at ≡ blanks s e
-    unfolding newline
-    newline_is n = rw (sym is, ne_eqb e at n)
 
     pub newline_no : e ≡ at → newline s at ≡ at
     unfolding newline
@@ -67,22 +55,9 @@ module _ (s : List ℕ) (at : ℕ) where
     unfolding next_line
     next_line_end h = rw (sym so ∙ past_end is_not_lf s i h, le-ltb i (length s) h)
 
-  pub line_past_comment : get_or s at 0 ≡ 99 → line_past s at ≡ next_line s (at + 1)
-  unfolding line_past
-  line_past_comment h = rw (eq-eqb (get_or s at 0) 99 h)
-
   pub line_past_end : (get_or s at 0 ≡ 99 → ⊥) → line_past s at ≡ line_end s at
   unfolding line_past
   line_past_end h = rw (ne_eqb (get_or s at 0) 99 h)
-
-  module _ (e : ℕ) (is : e ≡ fixed s (bytes "c ") at) where
-    pub strict_comment_is : (e ≡ at → ⊥) → strict_comment s at ≡ next_line s e
-    unfolding strict_comment
-    strict_comment_is n = rw (sym is, ne_eqb e at n)
-
-    pub strict_comment_no : e ≡ at → strict_comment s at ≡ at
-    unfolding strict_comment
-    strict_comment_no n = rw (sym is, eq-eqb e at n)
 
   -- What a loop over comments and line ends asks, of the place that its call gave: the measure falls, and the rest is the same.
   module _ (a : ℕ) (is : a ≡ line_past s at) where
@@ -100,7 +75,3 @@ module _ (s : List ℕ) (at : ℕ) where
     pub linebreaks_no : a ≡ at → linebreaks s at ≡ at
     unfolding linebreaks
     linebreaks_no h = rw (sym is, eq-eqb a at h)
-
-    pub linebreaks_is : (a ≡ at → ⊥) → linebreaks s at ≡ lines s a
-    unfolding linebreaks
-    linebreaks_is h = rw (sym is, ne_eqb a at h)

@@ -59,10 +59,6 @@ decimal_none v (d ∷ r) h = go (is_digit d) h
     go true e = absurd (omega arith)
     go false e = refl
 
-pub digits_stand : (s : List ℕ) (at : ℕ) → 0 < decimal 0 (drop at s) → past is_digit s at ≡ at → ⊥
-unfolding past
-digits_stand s at h e = omega (arith, decimal_none 0 (drop at s) (omega arith))
-
 -- The cases of `unsigned`.
 module _ {s : List ℕ} {at e v : ℕ} (a : All 0 s at e v) where
   pub unsigned_none : e ≡ at → unsigned s at ≡ none

@@ -3,17 +3,12 @@ use Prim.Native.Nat.{ℕ, ◌+◌, ◌≤◌, ◌<◌}
 use mathlib.Core.Bool.{Bool, true, false}
 use mathlib.Core.List.{List, []}
 use mathlib.Core.Path.{◌≡◌, sym}
-use native.Mathlib.Numerals.{add-one}
 use native.Mathlib.Omega.{arith}
-use borrow.Author.Tests.{eq-eqb, ne_eqb, le-leb, lt-leb}
+use borrow.Author.Tests.{eq-eqb, ne_eqb, lt-leb}
 use lib.ListN.{length, get_or, drop, drop_of_length-le}
 use lib.Seq.{drop-cons}
 use Rattle.dimacs.specs.Bytes.{is_stop}
 use Rattle.dimacs.specs.Tokens.{begins, blanks, fixed, word_ends, word}
-
-pub word_ends_end : (s : List ℕ) (at : ℕ) → length s ≤ at → word_ends s at ≡ true
-unfolding word_ends
-word_ends_end s at h = rw (le-leb (length s) at h)
 
 pub word_ends_at : (s : List ℕ) (at : ℕ) (t : Bool) → at < length s → is_stop (get_or s at 0) ≡ t → word_ends s at ≡ t
 unfolding word_ends
@@ -21,10 +16,6 @@ word_ends_at s at t h e = rw (lt-leb (length s) at h) e
 
 -- What a comparison of w with the text asks, at the k-th byte of w and the i-th of the text.
 module _ (w s : List ℕ) (k i : ℕ) where
-  pub begins_more : k < length w → i < length s → get_or s i 0 ≡ get_or w k 0 → begins (drop (k + 1) w) (drop (i + 1) s) ≡ begins (drop k w) (drop i s)
-  unfolding begins
-  begins_more h l e = rw (add-one k, add-one i, drop-cons w k 0 h, drop-cons s i 0 l, eq-eqb (get_or w k 0) (get_or s i 0) (sym e))
-
   pub begins_differs : k < length w → i < length s → (get_or s i 0 ≡ get_or w k 0 → ⊥) → begins (drop k w) (drop i s) ≡ false
   unfolding begins
   begins_differs h l n = rw (drop-cons w k 0 h, drop-cons s i 0 l, ne_eqb (get_or w k 0) (get_or s i 0) (λ e. n (sym e)))
