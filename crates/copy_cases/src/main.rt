@@ -40,6 +40,19 @@ struct Formula<'a> {
     clauses: &'a [Given<'a>],
 }
 
+// Where lines are laid and then printed. Each program has one of its own, as methods stand only beside their type.
+#[derive(Drop)]
+struct Printer<'a> {
+    page: Page<'a>,
+    out: &'a mut Stdout,
+}
+
+impl Printer<'_> {
+    fn show(&mut self) {
+        self.page.show(self.out);
+    }
+}
+
 // Says so if what was read is not what was written.
 fn compared(stdout: &mut Stdout, same: bool) {
     if !same {
@@ -90,38 +103,31 @@ fn written(stdout: &mut Stdout, text: &mut [u8], f: Formula) -> usize {
     at
 }
 
-fn opening_read(stdout: &mut Stdout, page: &mut Page, f: Formula, read: Result<Opening, Refusal>) {
+fn opening_read(printer: &mut Printer, f: Formula, read: Result<Opening, Refusal>) {
     match read {
         Ok(Opening::Header(header, _)) => {
-            lines::header_line(page, header, f.format);
-            page.show(stdout);
-            compared(stdout, f.header == Some(header));
+            lines::header_line(&mut printer.page, header, f.format);
+            printer.show();
+            compared(printer.out, f.header == Some(header));
         }
         Ok(Opening::NoHeader(_)) => {
-            console::print(stdout, b"header none\n");
-            compared(stdout, f.header.is_none());
+            console::print(printer.out, b"header none\n");
+            compared(printer.out, f.header.is_none());
         }
         Err(_) => {}
     }
 }
 
 // A clause that was read, as it is given.
-fn clause_read(
-    stdout: &mut Stdout,
-    page: &mut Page,
-    format: Format,
-    read: Given,
-    due: Option<Given>,
-) {
-    lines::clause_line(page, format, read.extra, read.lits);
-    page.show(stdout);
-    compared(stdout, due == Some(read));
+fn clause_read(printer: &mut Printer, format: Format, read: Given, due: Option<Given>) {
+    lines::clause_line(&mut printer.page, format, read.extra, read.lits);
+    printer.show();
+    compared(printer.out, due == Some(read));
 }
 
 // An answer of the reader. It must be the clause that is due, or the end where none is.
 fn answer_read(
-    stdout: &mut Stdout,
-    page: &mut Page,
+    printer: &mut Printer,
     answer: Next,
     format: Format,
     lits: &[i32],
@@ -133,24 +139,23 @@ fn answer_read(
                 extra: clause.extra,
                 lits: first(lits, clause.count),
             };
-            clause_read(stdout, page, format, read, due);
+            clause_read(printer, format, read, due);
         }
         Ok(None) => {
-            console::print(stdout, b"end\n");
-            compared(stdout, due.is_none());
+            console::print(printer.out, b"end\n");
+            compared(printer.out, due.is_none());
         }
         Err(stopped) => {
-            lines::refused_line(page, stopped.refusal);
-            page.show(stdout);
-            compared(stdout, false);
+            lines::refused_line(&mut printer.page, stopped.refusal);
+            printer.show();
+            compared(printer.out, false);
         }
     }
 }
 
 // The next answer of the reader, and the cursor past it.
 fn next_read(
-    stdout: &mut Stdout,
-    page: &mut Page,
+    printer: &mut Printer,
     text: &[u8],
     cursor: Cursor,
     lits: &mut [i32],
@@ -158,20 +163,20 @@ fn next_read(
 ) -> Cursor {
     let format = cursor.format;
     let step = cursor.next_clause(text, lits);
-    answer_read(stdout, page, step.answer, format, lits, due);
+    answer_read(printer, step.answer, format, lits, due);
     step.cursor
 }
 
 // The text read in a mode, with the room of a caller that lends no buffer.
-fn read_back(stdout: &mut Stdout, page: &mut Page, text: &[u8], f: Formula, mode: Mode) {
+fn read_back(printer: &mut Printer, text: &[u8], f: Formula, mode: Mode) {
     let opened = formula::open_as(text, f.format, mode);
-    opening_read(stdout, page, f, opened.opening);
+    opening_read(printer, f, opened.opening);
     let mut lits = [0i32; ROOM];
     let mut cursor = opened.cursor;
     for clause in f.clauses {
-        cursor = next_read(stdout, page, text, cursor, &mut lits, Some(*clause));
+        cursor = next_read(printer, text, cursor, &mut lits, Some(*clause));
     }
-    next_read(stdout, page, text, cursor, &mut lits, None);
+    next_read(printer, text, cursor, &mut lits, None);
 }
 
 fn name(page: &mut Page, format: Format)
@@ -195,7 +200,7 @@ fn title_line(page: &mut Page, format: Format, bytes: usize)
 }
 
 // The text read strictly and leniently.
-fn both(stdout: &mut Stdout, page: &mut Page, text: &[u8], f: Formula, ends: Ends) {
+fn both(printer: &mut Printer, text: &[u8], f: Formula, ends: Ends) {
     let strict = Mode {
         rigor: Rigor::Strict,
         ends,
@@ -204,22 +209,22 @@ fn both(stdout: &mut Stdout, page: &mut Page, text: &[u8], f: Formula, ends: End
         rigor: Rigor::Lenient,
         ends,
     };
-    console::print(stdout, b"strict\n");
-    read_back(stdout, page, text, f, strict);
-    console::print(stdout, b"lenient\n");
-    read_back(stdout, page, text, f, lenient);
+    console::print(printer.out, b"strict\n");
+    read_back(printer, text, f, strict);
+    console::print(printer.out, b"lenient\n");
+    read_back(printer, text, f, lenient);
 }
 
-fn copied(stdout: &mut Stdout, page: &mut Page, f: Formula) {
+fn copied(printer: &mut Printer, f: Formula) {
     let mut bytes = [0u8; TEXT];
-    let length = written(stdout, &mut bytes, f);
+    let length = written(printer.out, &mut bytes, f);
     let text = first(&bytes, length);
-    title_line(page, f.format, length);
-    page.show(stdout);
-    console::print(stdout, text);
-    both(stdout, page, text, f, Ends::LineFeed);
-    console::print(stdout, b"cr\n");
-    both(stdout, page, text, f, Ends::AlsoReturn);
+    title_line(&mut printer.page, f.format, length);
+    printer.show();
+    console::print(printer.out, text);
+    both(printer, text, f, Ends::LineFeed);
+    console::print(printer.out, b"cr\n");
+    both(printer, text, f, Ends::AlsoReturn);
 }
 
 fn headed<'a>(
@@ -249,32 +254,24 @@ fn bare<'a>(format: Format, given: &'a [Given<'a>]) -> Formula<'a> {
     }
 }
 
-fn plain(stdout: &mut Stdout, page: &mut Page) {
+fn plain(printer: &mut Printer) {
     let same_as_counts = [Given::new(0, &[1, -3]), Given::new(0, &[-2])];
-    copied(
-        stdout,
-        page,
-        headed(Format::Plain, 3, 2, 0, &same_as_counts),
-    );
+    copied(printer, headed(Format::Plain, 3, 2, 0, &same_as_counts));
     let largest = [
         Given::new(0, &[2147483647, -2147483647]),
         Given::new(0, &[]),
     ];
-    copied(
-        stdout,
-        page,
-        headed(Format::Plain, 2147483647, 0, 0, &largest),
-    );
+    copied(printer, headed(Format::Plain, 2147483647, 0, 0, &largest));
     let digits = [Given::new(0, &[9, -10, 99, -100])];
-    copied(stdout, page, headed(Format::Plain, 0, 1, 0, &digits));
+    copied(printer, headed(Format::Plain, 0, 1, 0, &digits));
     let empty_first = [
         Given::new(0, &[]),
         Given::new(0, &[-2147483647, 2147483647]),
     ];
-    copied(stdout, page, bare(Format::Plain, &empty_first));
+    copied(printer, bare(Format::Plain, &empty_first));
 }
 
-fn weighted(stdout: &mut Stdout, page: &mut Page) {
+fn weighted(printer: &mut Printer) {
     let digits = [
         Given::new(0, &[1]),
         Given::new(9, &[-9]),
@@ -282,46 +279,38 @@ fn weighted(stdout: &mut Stdout, page: &mut Page) {
         Given::new(99, &[100]),
         Given::new(100, &[]),
     ];
-    copied(
-        stdout,
-        page,
-        headed(Format::Weighted, 100, 5, LARGEST, &digits),
-    );
+    copied(printer, headed(Format::Weighted, 100, 5, LARGEST, &digits));
     let largest = [Given::new(2147483647, &[2147483647])];
-    copied(stdout, page, headed(Format::Weighted, 0, 0, 0, &largest));
+    copied(printer, headed(Format::Weighted, 0, 0, 0, &largest));
     let weights = [
         Given::new(9223372036854775808, &[-2147483647]),
         Given::new(LARGEST, &[]),
         Given::new(0, &[1]),
     ];
-    copied(stdout, page, bare(Format::Weighted, &weights));
+    copied(printer, bare(Format::Weighted, &weights));
 }
 
-fn grouped(stdout: &mut Stdout, page: &mut Page) {
+fn grouped(printer: &mut Printer) {
     let digits = [
         Given::new(0, &[1, -9]),
         Given::new(9, &[]),
         Given::new(10, &[2]),
     ];
-    copied(stdout, page, headed(Format::Grouped, 9, 3, 10, &digits));
+    copied(printer, headed(Format::Grouped, 9, 3, 10, &digits));
     let largest = [
         Given::new(LARGEST, &[-2147483647]),
         Given::new(9223372036854775808, &[]),
     ];
-    copied(
-        stdout,
-        page,
-        headed(Format::Grouped, 0, 0, LARGEST, &largest),
-    );
+    copied(printer, headed(Format::Grouped, 0, 0, LARGEST, &largest));
     let groups = [
         Given::new(LARGEST, &[]),
         Given::new(99, &[2147483647]),
         Given::new(100, &[-1]),
     ];
-    copied(stdout, page, bare(Format::Grouped, &groups));
+    copied(printer, bare(Format::Grouped, &groups));
 }
 
-fn weighted_2022(stdout: &mut Stdout, page: &mut Page) {
+fn weighted_2022(printer: &mut Printer) {
     let some_hard = [
         Given::new(HARD, &[1, -3]),
         Given::new(9, &[2147483647, -2147483647]),
@@ -329,59 +318,63 @@ fn weighted_2022(stdout: &mut Stdout, page: &mut Page) {
         Given::new(100, &[]),
         Given::new(LARGEST, &[-2]),
     ];
-    copied(stdout, page, bare(Format::Weighted2022, &some_hard));
+    copied(printer, bare(Format::Weighted2022, &some_hard));
 }
 
 // Formulas of no clauses.
-fn empty(stdout: &mut Stdout, page: &mut Page, format: Format) {
-    copied(stdout, page, bare(format, &[]));
-    copied(stdout, page, headed(format, 0, 0, 0, &[]));
+fn empty(printer: &mut Printer, format: Format) {
+    copied(printer, bare(format, &[]));
+    copied(printer, headed(format, 0, 0, 0, &[]));
 }
 
-// Literals that take all the room, each by its index.
+// Literals that take all the room.
 fn longest() -> [i32; ROOM] {
     let mut lits = [0i32; ROOM];
-    for i in 0..ROOM {
-        lits[i] = (i + 1) as i32;
+    for (i, lit) in lits.iter_mut().enumerate() {
+        *lit = (i + 1) as i32;
     }
     lits[ROOM - 1] = -1024;
     lits
 }
 
-fn long(stdout: &mut Stdout, page: &mut Page, format: Format, third: u64) {
+fn long(printer: &mut Printer, format: Format, third: u64) {
     let lits = longest();
     let clauses = [Given::new(third, &lits)];
-    copied(stdout, page, headed(format, 1024, 1, third, &clauses));
+    copied(printer, headed(format, 1024, 1, third, &clauses));
 }
 
-fn long_bare(stdout: &mut Stdout, page: &mut Page, format: Format, extra: u64) {
+fn long_bare(printer: &mut Printer, format: Format, extra: u64) {
     let lits = longest();
     let clauses = [Given::new(extra, &lits)];
-    copied(stdout, page, bare(format, &clauses));
+    copied(printer, bare(format, &clauses));
 }
 
-fn copies(stdout: &mut Stdout, page: &mut Page) {
-    plain(stdout, page);
-    weighted(stdout, page);
-    grouped(stdout, page);
-    empty(stdout, page, Format::Plain);
-    empty(stdout, page, Format::Weighted);
-    empty(stdout, page, Format::Grouped);
-    long(stdout, page, Format::Plain, 0);
-    long(stdout, page, Format::Weighted, LARGEST);
-    long(stdout, page, Format::Grouped, LARGEST);
-    weighted_2022(stdout, page);
-    copied(stdout, page, bare(Format::Weighted2022, &[]));
-    long_bare(stdout, page, Format::Weighted2022, HARD);
-    long_bare(stdout, page, Format::Weighted2022, LARGEST);
+fn copies(printer: &mut Printer) {
+    plain(printer);
+    weighted(printer);
+    grouped(printer);
+    empty(printer, Format::Plain);
+    empty(printer, Format::Weighted);
+    empty(printer, Format::Grouped);
+    long(printer, Format::Plain, 0);
+    long(printer, Format::Weighted, LARGEST);
+    long(printer, Format::Grouped, LARGEST);
+    weighted_2022(printer);
+    copied(printer, bare(Format::Weighted2022, &[]));
+    long_bare(printer, Format::Weighted2022, HARD);
+    long_bare(printer, Format::Weighted2022, LARGEST);
 }
 
 fn main(rt: HostRuntime) {
     let mut stdout = rt.stdout();
     let mut bytes = [0u8; PAGE];
-    let mut page = Page {
+    let page = Page {
         bytes: &mut bytes,
         at: 0,
     };
-    copies(&mut stdout, &mut page);
+    let mut printer = Printer {
+        page,
+        out: &mut stdout,
+    };
+    copies(&mut printer);
 }

@@ -22,7 +22,7 @@ const TEXT: usize = 4096;
 // The longest line: a number of 32 bits, five of 64 bits, a space before each of these, and the line end.
 const PAGE: usize = 128;
 
-// Each number after a space.
+// Each number after a space: four, written out as in the definition.
 fn numbers(page: &mut Page, words: [u64; 4])
     ensures { Laid (printed_numbers words) page.old page.new }
 {

@@ -18,7 +18,7 @@ const PAGE: usize = 65536;
 // The most literals of a clause.
 const LITERALS: usize = 4096;
 
-// The clauses from a cursor on, up to the end, each line laid in the page and then printed.
+// The clauses from a cursor on, up to the end, each line laid in the page and then printed. A `loop`, as each answer brings the cursor for the next, and the buffer is lent to each.
 fn clauses(text: &[u8], from: Cursor, page: &mut Page, out: &mut Stdout) -> Result<(), Stopped> {
     let mut lits = [0; LITERALS];
     let mut cursor = from;

@@ -40,7 +40,7 @@ impl Printer<'_> {
         console::print(self.out, b"end\n");
     }
 
-    // The clauses from a cursor on, up to the end.
+    // The clauses from a cursor on, up to the end. A `loop`, as each answer brings the cursor for the next, and the buffer is lent to each.
     fn clauses(&mut self, text: &[u8], from: Cursor, lits: &mut [i32]) -> Result<(), Stopped> {
         let mut cursor = from;
         loop {

@@ -114,6 +114,7 @@ impl Printer<'_> {
             opening_line(&mut self.page, opening, format);
             self.show();
         }
+        // Of words no clause here says that they lead to an end, so the answers are counted.
         for _ in 0..u64::MAX {
             if !self.answer(text, head.mode, format, &mut cursor, lits) {
                 return;

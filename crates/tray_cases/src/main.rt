@@ -106,7 +106,7 @@ fn change(area: &mut [u8], at: usize, byte: u8) {
     }
 }
 
-// The tray, and where lines are laid and then printed. The area and the literals stand apart, as a turn borrows them beside the tray.
+// The tray, which goes through each call by value as in `tray_demo` it is lent, and where lines are laid and then printed. The area and the literals stand apart, as a turn borrows them beside the tray.
 #[derive(Drop)]
 struct Desk<'a> {
     tray: Tray,
