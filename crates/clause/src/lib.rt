@@ -39,7 +39,7 @@ pub struct Answered {
     pub place: usize,
 }
 
-// The literals from a place on, up to the 0, or none where no number stands there. A `loop`, as each row says where the next begins, and the buffer is lent to each.
+// The literals from a place on, up to the 0, or none where no number stands there.
 fn clause_lits(
     text: &[u8],
     ends: Ends,

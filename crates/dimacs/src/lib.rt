@@ -5,7 +5,7 @@
 ghost use Rattle.std.specs.Prelude.{◌≡◌, ◌<◌, eqb, nat_abs, length};
 ghost use Rattle.dimacs.specs.Bytes.{LF};
 ghost use Rattle.dimacs.specs.Spots.{spot_of};
-ghost use Rattle.dimacs.specs.Names.{in_mode, kind_in, kind_of, number_of, numbered, refusal, call_numbered, call_refusal};
+ghost use Rattle.dimacs.specs.Names.{in_mode, kind_in, kind_of, number_of, refusal, call_refusal};
 ghost use Rattle.dimacs.specs.Lined.{lined, also_ends};
 ghost use Rattle.dimacs.specs.Tokens.{byte_at};
 ghost use Rattle.dimacs.specs.Header.{has_header, has_third};
@@ -35,7 +35,7 @@ pub enum Format {
     Weighted2022,
 }
 
-// The number by which hosts name a log.
+// The number that names a log.
 pub const LOG_FORMAT: u8 = 3;
 
 // A lenient reading applies no count of a header, and passes over log lines of no permitted kind.
@@ -164,7 +164,7 @@ impl From<Reason> for u8 {
     }
 }
 
-// A refusal: its number, the place at fault, and the line and the column of that place, or 0 and 0 where no text is at fault. It has no reason, since a cursor that C keeps as words may hold any number.
+// A refusal: its number, the place at fault, and the line and the column of that place, or 0 and 0 where no text is at fault.
 #[derive(Clone, Copy, Debug, PartialEq, Eq)]
 pub struct Refusal {
     pub number: u8,
@@ -221,44 +221,30 @@ fn spot_of(text: &[u8], ends: Ends, place: usize) -> Spot
     Spot { line, column }
 }
 
-// The refusal of a text by any number, at a place in it. Every refusal of a text is made here.
+// The refusal of a text at a place in it. Every refusal of a text is made here.
 #[tactic(auto, unfolding(crate::specs::Names::numbered))]
-pub fn refuse_numbered(text: &[u8], ends: Ends, number: u8, place: usize) -> Refusal
-    ensures { result ≡ numbered (lined ends text.now) number place }
+pub fn refuse(text: &[u8], ends: Ends, reason: Reason, place: usize) -> Refusal
+    ensures { result ≡ refusal (lined ends text.now) reason place }
 {
     let spot = spot_of(text, ends, place);
     Refusal {
-        number,
+        number: u8::from(reason),
         place,
         line: spot.line,
         column: spot.column,
     }
 }
 
-// The refusal of a text for a reason, at a place in it.
-pub fn refuse(text: &[u8], ends: Ends, reason: Reason, place: usize) -> Refusal
-    ensures { result ≡ refusal (lined ends text.now) reason place }
-{
-    refuse_numbered(text, ends, u8::from(reason), place)
-}
-
-// The refusal of a call by any number, where no text is at fault, at the index of the literal at fault, or at 0. Every such refusal is made here.
-pub fn refuse_call_numbered(number: u8, index: usize) -> Refusal
-    ensures { result ≡ call_numbered number index }
+// The refusal of a call, where no text is at fault, at the index of the literal at fault, or at 0. Every such refusal is made here.
+pub fn refuse_call(reason: Reason, index: usize) -> Refusal
+    ensures { result ≡ call_refusal reason index }
 {
     Refusal {
-        number,
+        number: u8::from(reason),
         place: index,
         line: 0,
         column: 0,
     }
-}
-
-// The refusal of a call for a reason.
-pub fn refuse_call(reason: Reason, index: usize) -> Refusal
-    ensures { result ≡ call_refusal reason index }
-{
-    refuse_call_numbered(u8::from(reason), index)
 }
 
 // The size of a literal.
@@ -268,7 +254,7 @@ pub fn magnitude(literal: i32) -> u64
     u64::from(literal.unsigned_abs())
 }
 
-// An unsigned number at a place: none, its value and the place past it and the blanks after it, or one above its limit. Callers treat the three apart, so that they are no Result of an Option.
+// An unsigned number at a place: none, its value and the place past it and the blanks after it, or one above its limit.
 #[derive(Clone, Copy, Debug, PartialEq, Eq)]
 pub enum Uint {
     Missing,
@@ -276,7 +262,7 @@ pub enum Uint {
     TooBig,
 }
 
-// A signed number at a place: none; the 0 or a literal, and the place past it and the blanks after it; or one beyond its limit. Callers treat the four apart.
+// A signed number at a place: none; the 0 or a literal, and the place past it and the blanks after it; or one beyond its limit.
 #[derive(Clone, Copy, Debug, PartialEq, Eq)]
 pub enum Int {
     Missing,

@@ -100,7 +100,7 @@ fn opened_unknown() -> Opened
     }
 }
 
-// The text opened by the numbers of a format of clauses and a mode, as hosts and frames name them.
+// The text opened by the numbers of a format of clauses and a mode.
 pub fn open(text: &[u8], format: u8, mode: u8) -> Opened
     ensures { result ≡ opened format mode text.now }
 {
@@ -211,7 +211,7 @@ impl Cursor {
     }
 }
 
-// The whole text from a cursor on, with room for as many literals in a clause as where the caller lends no buffer. A `loop`, as each answer brings the cursor for the next.
+// The whole text from a cursor on, with room for as many literals in a clause as where the caller lends no buffer.
 fn read_on(text: &[u8], from: Cursor) -> Result<(), Refusal>
     ensures { result ≡ outcome_from text.now own_room from }
 {

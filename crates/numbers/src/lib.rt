@@ -1,10 +1,12 @@
-// The numbers of a host as bytes, which name formats and modes, and refusals as its words.
+// The numbers of a host as bytes, which name formats and modes, refusals as its words, and refusals by any number.
 #![tactic(auto)]
 
 ghost use Rattle.std.specs.Prelude.{◌≡◌, min};
+ghost use Rattle.dimacs.specs.Lined.{lined};
+ghost use Rattle.dimacs.specs.Names.{numbered, call_numbered};
 ghost use Rattle.numbers.specs.Words.{refusal_words, refusal_of};
 
-use dimacs::Refusal;
+use dimacs::{Ends, Reason, Refusal, refuse, refuse_call};
 
 // A number as a byte. One above all bytes goes to the largest, which names no format and no mode, so that it still names nothing.
 pub fn narrowed(n: u64) -> u8
@@ -35,5 +37,26 @@ pub fn refusal_of(words: [u64; 4]) -> Refusal
         place: place as usize,
         line: line as usize,
         column: column as usize,
+    }
+}
+
+// The refusal of a text by any number, at a place in it.
+#[tactic(auto, unfolding(dimacs::specs::Names::numbered))]
+pub fn refuse_numbered(text: &[u8], ends: Ends, number: u8, place: usize) -> Refusal
+    ensures { result ≡ numbered (lined ends text.now) number place }
+{
+    Refusal {
+        number,
+        ..refuse(text, ends, Reason::LineEndExpected, place)
+    }
+}
+
+// The refusal of a call by any number, where no text is at fault, at the index of the literal at fault, or at 0.
+pub fn refuse_call_numbered(number: u8, index: usize) -> Refusal
+    ensures { result ≡ call_numbered number index }
+{
+    Refusal {
+        number,
+        ..refuse_call(Reason::FormatOrModeUnknown, index)
     }
 }

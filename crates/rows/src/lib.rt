@@ -24,7 +24,7 @@ pub struct Stopped {
     pub count: usize,
 }
 
-// The row from a place on, after `held` literals of the buffer, or after all where it has not so many. A `loop`, as each number says where the next begins. The buffer is the caller's, as no memory is asked for, so that what is read is told by its count.
+// The row from a place on, after `held` literals of the buffer, or after all where it has not so many.
 pub fn ints(
     text: &[u8],
     ends: Ends,

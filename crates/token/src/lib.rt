@@ -1,7 +1,5 @@
 // Tokens: which word, comment or line end stands at a place of a lent text. Any bytes and any place are taken, also a place past the text's end.
-// A function answers the place past the token, or the place itself where there is none, as the definition's and token.rs's do: what follows most often goes on from the answer either way. The names are those of token.rs.
-//
-// A text and what ends its lines go side by side, not in one struct: half of the functions here read a text alone, and would take it out again.
+// A function answers the place past the token, or the place itself where there is none. The names are those of token.rs.
 #![tactic(auto)]
 
 ghost use Rattle.std.specs.Prelude.{◌≡◌, ◌<◌, length};
