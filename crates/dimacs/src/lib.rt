@@ -2,10 +2,10 @@
 // The written definition in specs/ is over these same types, so that a contract equates an answer with a definition.
 #![tactic(auto)]
 
-ghost use Rattle.std.specs.Prelude.{◌≡◌, ◌<◌, eqb, nat_abs, length};
+ghost use Rattle.std.specs.Prelude.{◌≡◌, ◌<◌, ℕ, eqb, nat_abs, length};
 ghost use Rattle.dimacs.specs.Bytes.{LF};
 ghost use Rattle.dimacs.specs.Spots.{spot_of};
-ghost use Rattle.dimacs.specs.Names.{in_mode, kind_in, kind_of, number_of, refusal, call_refusal};
+ghost use Rattle.dimacs.specs.Names.{in_mode, kind_in, kind_of, number_of, numbered, call_numbered};
 ghost use Rattle.dimacs.specs.Lined.{lined, also_ends};
 ghost use Rattle.dimacs.specs.Tokens.{byte_at};
 ghost use Rattle.dimacs.specs.Header.{has_header, has_third};
@@ -164,6 +164,31 @@ impl From<Reason> for u8 {
     }
 }
 
+// What a refusal may be asked for by: a reason, or any number.
+pub trait Numbered: Copy {
+    ghost number: { Self → ℕ };
+
+    // The number by which it goes outside.
+    fn number(self) -> u8
+        ensures { result ≡ number self };
+}
+
+impl Numbered for Reason {
+    ghost number = { number_of };
+
+    fn number(self) -> u8 {
+        u8::from(self)
+    }
+}
+
+impl Numbered for u8 {
+    ghost number = { λ number. number };
+
+    fn number(self) -> u8 {
+        self
+    }
+}
+
 // A refusal: its number, the place at fault, and the line and the column of that place, or 0 and 0 where no text is at fault.
 #[derive(Clone, Copy, Debug, PartialEq, Eq)]
 pub struct Refusal {
@@ -223,12 +248,12 @@ fn spot_of(text: &[u8], ends: Ends, place: usize) -> Spot
 
 // The refusal of a text at a place in it. Every refusal of a text is made here.
 #[tactic(auto, unfolding(crate::specs::Names::numbered))]
-pub fn refuse(text: &[u8], ends: Ends, reason: Reason, place: usize) -> Refusal
-    ensures { result ≡ refusal (lined ends text.now) reason place }
+pub fn refuse<N: Numbered>(text: &[u8], ends: Ends, reason: N, place: usize) -> Refusal
+    ensures { result ≡ numbered (lined ends text.now) (N.number reason) place }
 {
     let spot = spot_of(text, ends, place);
     Refusal {
-        number: u8::from(reason),
+        number: reason.number(),
         place,
         line: spot.line,
         column: spot.column,
@@ -236,11 +261,11 @@ pub fn refuse(text: &[u8], ends: Ends, reason: Reason, place: usize) -> Refusal
 }
 
 // The refusal of a call, where no text is at fault, at the index of the literal at fault, or at 0. Every such refusal is made here.
-pub fn refuse_call(reason: Reason, index: usize) -> Refusal
-    ensures { result ≡ call_refusal reason index }
+pub fn refuse_call<N: Numbered>(reason: N, index: usize) -> Refusal
+    ensures { result ≡ call_numbered (N.number reason) index }
 {
     Refusal {
-        number: u8::from(reason),
+        number: reason.number(),
         place: index,
         line: 0,
         column: 0,
