@@ -6,10 +6,11 @@ use mathlib.Core.Path.{◌≡◌, refl, ap, sym, ◌∙◌}
 use native.Mathlib.Numerals.{add-one}
 use native.Mathlib.Omega.{arith}
 use lib.IntN.{ℤ, pos, negsuc, nat_abs}
-use lib.ListN.{length, get_or, take, drop, length-append, take-append-drop}
+use lib.ListN.{length, get_or, take, drop, drop_of_length-le, length-append, take-append-drop}
 use lib.Seq.{take-suc, take_all}
 use Rattle.dimacs.specs.Bytes.{bytes}
 use Rattle.std.specs.List.{fold, prefix_len}
+use Rattle.std.proofs.lemmas.List.{drop_more}
 use Rattle.decimals.proofs.Digits.{digits_bounded}
 use Rattle.dimacs.specs.Tokens.{run}
 use Rattle.dimacs.specs.Writing.{signed_digits, item, items}
@@ -25,6 +26,21 @@ pub items_taken : (room : ℕ) (lits : List ℤ) → fold (λ left l. left - len
 unfolding items
 items_taken room [] = omega arith
 items_taken room (l ∷ lits) = let e = items_taken (room - length (item l)) lits in omega (arith, length-append (item l) (items lits))
+
+-- What the literals from a place on leave of what is left is what all of them leave of the room.
+pub record Leaves (room : ℕ) (lits : List ℤ) (left i : ℕ) : Type 0 where
+  pub same : fold (λ left l. left - length (item l)) left (drop i lits) ≡ room - length (items lits)
+
+module _ {room : ℕ} {lits : List ℤ} {left i : ℕ} (h : Leaves room lits left i) where
+  pub leaves_all : length lits ≤ i → left ≡ room - length (items lits)
+  leaves_all l = ap (fold (λ left l. left - length (item l)) left) (sym (drop_of_length-le lits l)) ∙ h.same
+
+  module _ {long : ℕ} (l : i < length lits) (e : long ≡ length (item (get_or lits i (pos 0)))) where
+    pub leaves_next : Leaves room lits (left - long) (i + 1)
+    leaves_next = record { same = rw e (sym (ap (fold (λ left l. left - length (item l)) left) (drop_more lits i (pos 0) l)) ∙ h.same) }
+
+    pub leaves_none : left < long → 0 ≡ room - length (items lits)
+    leaves_none k = omega (arith, items_taken (left - long) (drop (i + 1) lits), leaves_next.same)
 
 -- Literals, and then more.
 items-append : (a b : List ℤ) → items (a ++ b) ≡ items a ++ items b

@@ -33,8 +33,15 @@ fn item_length(literal: i32) -> usize
 pub fn left_after(room: usize, lits: &[i32]) -> usize
     ensures { result ≡ room - length (items lits.now) }
 {
-    lits.iter()
-        .fold(room, |left, lit| left.saturating_sub(item_length(*lit)))
+    let mut left = room;
+    for lit in lits {
+        let long = item_length(*lit);
+        if left < long {
+            return 0;
+        }
+        left -= long;
+    }
+    left
 }
 
 // How long what stands around the literals is: the 0 and the line end, and a weight, a group with its braces or the word `h`, with its space.
