@@ -6,9 +6,11 @@
 #![tactic(auto)]
 
 ghost use Rattle.std.specs.Prelude.{◌≡◌, ◌+◌, ◌*◌, ◌/◌, ◌≤◌, ◌<◌};
+ghost use Rattle.std.proofs.Math.ListN as list;
 ghost use Rattle.dimacs.specs.Names.{places};
+ghost use Rattle.lent_tray.specs.Lent.{LentPut, LentTurn};
 
-use dimacs::{PLACES, ROOM};
+use dimacs::{PLACES, ROOM, Reason};
 use lines::{Page, Words};
 use std::io::Stdout;
 use tray::{Job, Part, Told, Tray};
@@ -135,6 +137,20 @@ struct Day<'a> {
 }
 
 impl Day<'_> {
+    // A job put in the tray, which is lent for it.
+    fn put(&mut self, format: u8, mode: u8, part: Part, area: &[u8]) -> Result<u64, Reason>
+        ensures { LentPut self.old.tray (record { format = format; mode = mode; start = part.start; length = part.length; lent = list.length area.now }) self.new.tray result }
+    {
+        lent_tray::put(&mut self.tray, format, mode, part, area)
+    }
+
+    // A turn of the tray, which is lent for it, and the literals with it.
+    fn take_turn(&mut self, area: &[u8]) -> Result<Told, Reason>
+        ensures { LentTurn self.old.tray area.now self.old.lits self.new.lits self.new.tray result }
+    {
+        lent_tray::turn(&mut self.tray, area, &mut self.lits)
+    }
+
     // The next order is put, if one is left and there is a place. As many are put as there are tickets. A line tells its ticket.
     fn feed(&mut self, stdout: &mut Stdout, turns: usize) {
         let order = self.tray.given;
@@ -143,7 +159,7 @@ impl Day<'_> {
         }
         let text = text_of(order);
         let format = frame::u8_at(AREA, mark(text));
-        if let Ok(ticket) = lent_tray::put(&mut self.tray, format, 0, part(text), AREA) {
+        if let Ok(ticket) = self.put(format, 0, part(text), AREA) {
             self.begun[slot(ticket)] = turns;
             ticket_words(&mut self.page, ticket);
             self.page.word(b"put\n");
@@ -157,7 +173,7 @@ impl Day<'_> {
             return;
         };
         let taken = turn.saturating_sub(self.begun[slot(job.ticket)]);
-        if let Ok(told) = lent_tray::turn(&mut self.tray, AREA, &mut self.lits) {
+        if let Ok(told) = self.take_turn(AREA) {
             told_line(&mut self.page, told, job, taken, &self.lits);
             self.page.show(stdout);
         }
