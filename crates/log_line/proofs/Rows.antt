@@ -1,7 +1,7 @@
 -- The answers for a line are one, and k is how many literals they leave; and the line that a row of values stands in, a law for each way out. Assumes nothing.
 use Prim.Native.Nat.{ℕ}
 use mathlib.Core.List.{List}
-use mathlib.Core.Path.{◌≡◌, refl, sym, ◌∙◌, subst}
+use mathlib.Core.Path.{◌≡◌, refl, ap, sym, ◌∙◌, subst}
 use lib.ListN.{length, replicate, length-replicate}
 use lib.IntN.{ℤ, pos}
 use Rattle.std.specs.Prelude.{Option, None, Some, Result, Ok, Err}
@@ -21,11 +21,27 @@ use Rattle.rows.specs.declared.Row.{Row}
 use Rattle.rows.specs.declared.Row.TheVariants.{Ends, Closes}
 use Rattle.rows.specs.declared.Stopped.{Stopped}
 use Rattle.log_line.specs.Answers.{log_of, k_in, log_leaves}
-use Rattle.log_line.specs.Lines.{Line, log_line_of, line_leaves, ReadsLine}
+use Rattle.log_line.specs.Lines.{Line, leads, log_line_of, line_leaves, ReadsLine}
+use Rattle.log_line.specs.declared.Reading.{Reading}
 
 -- Two permitted answers are equal, and so are the buffers after them.
 pub one_line : {d : Step def.Log def.LogAnswer} {old n₁ n₂ : List ℤ} {r₁ r₂ : Line} → ReadsLine d old n₁ r₁ → ReadsLine d old n₂ r₂ → (r₁ ≡ r₂) × (n₁ ≡ n₂)
 one_line p q = (p.line ∙ sym q.line, p.buffer ∙ sym q.buffer)
+
+-- What the code answers for a line is told by what it leads to, so that two permitted answers of the code are equal too.
+module _ (r₂ : Result Reading Stopped) where
+  led : Line → Result Reading Stopped
+  led (again r) = Ok r
+  led (answer (Err e)) = Err e
+  led (answer (Ok a)) = r₂
+
+  led_leads : (r : Result Reading Stopped) → led (leads r) ≡ r
+  unfolding led
+  led_leads (Ok r) = refl
+  led_leads (Err e) = refl
+
+  pub one_reading : (r₁ : Result Reading Stopped) → leads r₁ ≡ leads r₂ → r₁ ≡ r₂
+  one_reading r₁ e = sym (led_leads r₁) ∙ ap led e ∙ led_leads r₂
 
 -- k is how many literals an answer leaves in the buffer.
 pub log_k_left : (d : def.LogAnswer) → k_in (log_of d) ≡ length (log_leaves d)

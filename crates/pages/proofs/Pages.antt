@@ -32,6 +32,10 @@ lay_then {at} {p} {q} {old} {mid} {new} {i} {r} h k =
 pub one_laying : {at : ℕ} {p old n₁ n₂ : List ℕ} {r₁ r₂ : ℕ} → Lays at p old n₁ r₁ → Lays at p old n₂ r₂ → (r₁ ≡ r₂) × (n₁ ≡ n₂)
 one_laying a b = one_piece a.puts b.puts
 
+-- So are two pages that the contract permits: they go on at one place, hold the same bytes, and are the page that was lent.
+pub one_laid : {p : List ℕ} {old a b : Page} → Laid p old a → Laid p old b → (a.at ≡ b.at) × (a.bytes.now ≡ b.bytes.now) × (a.bytes.ghost_name ≡ b.bytes.ghost_name)
+one_laid h k = let same = one_laying h.lays k.lays in (same.0, same.1, h.same_page ∙ sym k.same_page)
+
 pub lay_nothing : (at : ℕ) (old : List ℕ) → Lays at [] old old at
 lay_nothing at old = record { puts = rw (take-nil (length old - at)) (put_nothing at old) }
 
