@@ -13,7 +13,8 @@ use dimacs::LARGEST;
 use lines::{Page, case_line};
 use std::io::{Read, Write};
 pub use texts::{
-    Head, Texts, accepted_lines, opening_line, stopped_line, text_answer, text_answers,
+    Head, Texts, accepted_lines, literals_line, opening_line, stopped_line, text_answer,
+    text_answers, verdict_line,
 };
 
 // The longest title: a word, a space, twenty digits and the line end.

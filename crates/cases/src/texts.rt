@@ -126,7 +126,8 @@ pub fn opening_line(page: &mut Page, opening: Opening, format: Format)
     }
 }
 
-fn verdict_line(page: &mut Page, verdict: Option<Verdict>)
+// The line of a log's verdict, or that there is none.
+pub fn verdict_line(page: &mut Page, verdict: Option<Verdict>)
     ensures { Laid (printed_line (printed_verdict verdict)) page.old page.new }
 {
     match verdict {
@@ -137,7 +138,8 @@ fn verdict_line(page: &mut Page, verdict: Option<Verdict>)
     }
 }
 
-fn literals_line(page: &mut Page, lits: &[i32])
+// The line of a log's literals.
+pub fn literals_line(page: &mut Page, lits: &[i32])
     ensures { Laid (printed_line (bytes "literals" ++ printed_literals lits.now)) page.old page.new }
 {
     page.word(b"literals");

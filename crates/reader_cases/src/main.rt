@@ -6,7 +6,7 @@
 
 ghost use Rattle.std.specs.Prelude.{◌≤◌, length};
 
-use cases::{Head, Texts, accepted_lines, opening_line, stopped_line};
+use cases::{Head, Texts, literals_line, opening_line, stopped_line, verdict_line};
 use clause::Clause;
 use dimacs::{Ends, Format, Kind, LOG_FORMAT, Reason, kind_of};
 use formula::Cursor;
@@ -72,7 +72,9 @@ impl Printer<'_> {
 
     fn log(&mut self, text: &[u8], mode: u8, lits: &mut [i32]) -> Result<(), Stopped> {
         let accepted = sat_solver_log::parse_log(text, mode, lits)?;
-        accepted_lines(&mut self.page, accepted.verdict, &lits[..accepted.count]);
+        verdict_line(&mut self.page, accepted.verdict);
+        self.show();
+        literals_line(&mut self.page, &lits[..accepted.count]);
         self.show();
         Ok(())
     }

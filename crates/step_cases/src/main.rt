@@ -4,7 +4,7 @@
 #![tactic(auto)]
 
 use answer_words::{LOG_WORDS, NEXT_WORDS, OPENING_WORDS};
-use cases::{Head, Texts, accepted_lines, opening_line, stopped_line};
+use cases::{Head, Texts, literals_line, opening_line, stopped_line, verdict_line};
 use cursor_words::WORDS;
 use dimacs::{Format, Header, Kind, LOG_FORMAT, Opening, Reason, Verdict, kind_of};
 use lines::{Page, clause_line, first};
@@ -126,11 +126,9 @@ impl Printer<'_> {
         let mut words = [0; LOG_WORDS];
         if latchtwig_log(u32::from(mode), text, lits, &mut words) == 1 {
             let [_, _, _, _, count, verdict] = words;
-            accepted_lines(
-                &mut self.page,
-                verdict_of(verdict),
-                first(lits, count as usize),
-            );
+            verdict_line(&mut self.page, verdict_of(verdict));
+            self.show();
+            literals_line(&mut self.page, first(lits, count as usize));
             return self.show();
         }
         self.refused(text, mode, words)
