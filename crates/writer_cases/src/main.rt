@@ -7,7 +7,6 @@
 // Too many literals are `long`, and passed over; a frame that is cut off is `cut`, and an input that cannot be read is `unreadable`, and nothing follows them.
 #![tactic(auto)]
 
-ghost use Rattle.std.specs.Prelude.{◌≤◌, length};
 ghost use Rattle.pages.specs.Pages.{Laid};
 ghost use Rattle.writer_cases.specs.Answers.{written_line, call_line};
 
@@ -57,28 +56,24 @@ fn piece_of(frame: &[u8]) -> Option<Piece> {
 }
 
 // What the output holds at a place before a call. Neighbours differ, so that a byte that was moved is seen too.
-// A place has 16 bits here: so LLVM lays many bytes at once, where of 64 bits it makes a product of 128 bits for each.
-fn pattern(place: u16) -> u8 {
-    (place % 251) as u8
+// A place is below the longest output. Where LLVM knows that, it lays many bytes at once; of a place of 64 bits it makes a product of 128 bits for each byte.
+fn pattern(place: usize) -> u8 {
+    (place % OUTPUT % 251) as u8
 }
 
-fn fill(output: &mut [u8])
-    requires { length output.old ≤ 65536 }
-{
+fn fill(output: &mut [u8]) {
     for (place, byte) in output.iter_mut().enumerate() {
-        *byte = pattern(place as u16);
+        *byte = pattern(place);
     }
 }
 
 // Whether the output from a place on is as it was filled.
-fn is_untouched(output: &[u8], from: usize) -> bool
-    requires { length output.now ≤ 65536 }
-{
+fn is_untouched(output: &[u8], from: usize) -> bool {
     output
         .iter()
         .enumerate()
         .skip(from)
-        .all(|(place, byte)| *byte == pattern(place as u16))
+        .all(|(place, byte)| *byte == pattern(place))
 }
 
 fn written_line(page: &mut Page, written: &[u8])
