@@ -127,6 +127,20 @@ fn told_line(page: &mut Page, told: Told, job: Job, taken: usize, lits: &[i32]) 
     page.word(b"\n");
 }
 
+// A job put in the tray, which is lent for it.
+fn put_lent(tray: &mut Tray, format: u8, mode: u8, part: Part, area: &[u8]) -> Result<u64, Reason>
+    ensures { LentPut tray.old (record { format = format; mode = mode; start = part.start; length = part.length; lent = list.length area.now }) tray.new result }
+{
+    lent_tray::put(tray, format, mode, part, area)
+}
+
+// A turn of the tray, which is lent for it, and the literals with it.
+fn turn_lent(tray: &mut Tray, area: &[u8], lits: &mut [i32]) -> Result<Told, Reason>
+    ensures { LentTurn tray.old area.now lits.old lits.new tray.new result }
+{
+    lent_tray::turn(tray, area, lits)
+}
+
 // A tray and its literal buffer, the turns taken when each ticket was given, and the page for a line.
 #[derive(Drop)]
 struct Day<'a> {
@@ -137,20 +151,6 @@ struct Day<'a> {
 }
 
 impl Day<'_> {
-    // A job put in the tray, which is lent for it.
-    fn put(&mut self, format: u8, mode: u8, part: Part, area: &[u8]) -> Result<u64, Reason>
-        ensures { LentPut self.old.tray (record { format = format; mode = mode; start = part.start; length = part.length; lent = list.length area.now }) self.new.tray result }
-    {
-        lent_tray::put(&mut self.tray, format, mode, part, area)
-    }
-
-    // A turn of the tray, which is lent for it, and the literals with it.
-    fn take_turn(&mut self, area: &[u8]) -> Result<Told, Reason>
-        ensures { LentTurn self.old.tray area.now self.old.lits self.new.lits self.new.tray result }
-    {
-        lent_tray::turn(&mut self.tray, area, &mut self.lits)
-    }
-
     // The next order is put, if one is left and there is a place. As many are put as there are tickets. A line tells its ticket.
     fn feed(&mut self, stdout: &mut Stdout, turns: usize) {
         let order = self.tray.given;
@@ -159,7 +159,7 @@ impl Day<'_> {
         }
         let text = text_of(order);
         let format = frame::u8_at(AREA, mark(text));
-        if let Ok(ticket) = self.put(format, 0, part(text), AREA) {
+        if let Ok(ticket) = put_lent(&mut self.tray, format, 0, part(text), AREA) {
             self.begun[slot(ticket)] = turns;
             ticket_words(&mut self.page, ticket);
             self.page.word(b"put\n");
@@ -173,7 +173,7 @@ impl Day<'_> {
             return;
         };
         let taken = turn.saturating_sub(self.begun[slot(job.ticket)]);
-        if let Ok(told) = self.take_turn(AREA) {
+        if let Ok(told) = turn_lent(&mut self.tray, AREA, &mut self.lits) {
             told_line(&mut self.page, told, job, taken, &self.lits);
             self.page.show(stdout);
         }
