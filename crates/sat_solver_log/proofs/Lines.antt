@@ -1,4 +1,4 @@
--- The kinds of line of a log, a law for each; and the literals that each leaves. Assumes nothing.
+-- The answers for a line are one; the kinds of line of a log, a law for each; and the literals that each leaves. Assumes nothing.
 use Prim.Native.Nat.{ℕ, ◌≤◌}
 use mathlib.Core.Bool.{Bool, true, false, cond, ◌||◌}
 use mathlib.Core.List.{List}
@@ -32,11 +32,31 @@ use Rattle.rows.specs.declared.Stopped.{Stopped}
 use Rattle.log_line.specs.Lines.{Line, leads, log_state_of, log_line_of, line_leaves, ReadsLine}
 use Rattle.log_line.specs.declared.Reading.{Reading}
 use Rattle.log_line.specs.declared.Accepted.{Accepted}
-use Rattle.log_line.proofs.Rows.{line_read_leaves}
+use Rattle.log_line.proofs.Rows.{one_line, line_read_leaves}
 use Rattle.sat_solver_log.specs.Answers.{line_leads}
 use Rattle.sat_solver_log.specs.Starts.{found, value_start, solution_start}
 use Rattle.sat_solver_log.specs.declared.Line as own
 use Rattle.sat_solver_log.specs.declared.Line.TheVariants.{Again, End}
+
+-- What the code answers for a line is told by what it leads to.
+line_led : Line → Result own.Line Stopped
+line_led (again x) = Ok (Again x)
+line_led (answer (Ok a)) = Ok (End a)
+line_led (answer (Err e)) = Err e
+
+line_led_leads : (r : Result own.Line Stopped) → line_led (line_leads r) ≡ r
+unfolding line_led
+line_led_leads (Ok (Again x)) = refl
+line_led_leads (Ok (End a)) = refl
+line_led_leads (Err e) = refl
+
+pub one_leading : {r₁ r₂ : Result own.Line Stopped} → line_leads r₁ ≡ line_leads r₂ → r₁ ≡ r₂
+one_leading {r₁} {r₂} e = sym (line_led_leads r₁) ∙ ap line_led e ∙ line_led_leads r₂
+
+-- So two permitted answers of the code are equal, and so are the buffers after them.
+pub one_led_line : {d : Step def.Log def.LogAnswer} {old n₁ n₂ : List ℤ} {r₁ r₂ : Result own.Line Stopped}
+    → ReadsLine d old n₁ (line_leads r₁) → ReadsLine d old n₂ (line_leads r₂) → (r₁ ≡ r₂) × (n₁ ≡ n₂)
+one_led_line p q = let h = one_line p q in (one_leading h.0, h.1)
 
 -- A line that leads to the next, and one that may be the log's end.
 pub leads_again : (a : Result Reading Stopped) (r : Result own.Line Stopped) → MatchResult a (λ x. IsOkAnd r (λ y. y ≡ Again x)) (λ e. r ≡ Err e) → line_leads r ≡ leads a
