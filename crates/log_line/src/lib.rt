@@ -28,7 +28,8 @@ pub struct Reading {
     pub count: usize,
 }
 
-// A refusal at a place, after so many literals.
+// A refusal at a place, after so many literals. It ends a log, so LLVM keeps the registers for the lines before it.
+#[cold]
 fn stopped(text: &[u8], ends: Ends, reason: Reason, place: usize, count: usize) -> Stopped
     ensures { result ≡ stopped_after count (refusal (lined ends text.now) reason place) }
 {
@@ -88,7 +89,8 @@ const WORDS: [(&[u8], Verdict); 3] = [
     (b"UNKNOWN", Verdict::Unknown),
 ];
 
-// A solution line after its `s `.
+// A solution line after its `s `. At most one is read of a log. Apart, it leaves the loop over the lines short: so LLVM sees that a buffer whose literals no one reads need not be cleared.
+#[inline(never)]
 pub fn solution_line(
     text: &[u8],
     ends: Ends,

@@ -79,28 +79,26 @@ fn lone_return(ends: Ends) -> usize
     }
 }
 
-// Past the next line end, or to the end of the text.
-#[tactic(auto, using(crate::proofs::Returns::skip_lf, crate::proofs::Returns::skip_on, crate::proofs::Returns::skip_crlf, dimacs::proofs::Lines::next_line_end, dimacs::proofs::Lined::ended_lined))]
+// Past the next line end, or to the end of the text. The place goes on before the byte is asked: so LLVM counts places once in each round, and not twice.
+#[tactic(auto, using(crate::proofs::Returns::skip_lf, crate::proofs::Returns::skip_on))]
 pub fn interactive_skip_line(text: &[u8], ends: Ends, at: usize) -> usize
     ensures { result ≡ next_line (lined ends text.now) at }
 {
-    if eof(text, at) {
-        return at;
-    }
     let also = also_ends(ends);
-    for i in at..text.len() {
-        let b = text[i];
+    let mut i = at;
+    while let Some(&b) = text.get(i) {
+        i += 1;
         if b == b'\n' {
-            return i + 1;
+            return i;
         }
         if b == also {
-            return match text.get(i + 1) {
-                Some(b'\n') => i + 2,
-                _ => i + 1,
+            return match text.get(i) {
+                Some(b'\n') => i + 1,
+                _ => i,
             };
         }
     }
-    text.len()
+    i
 }
 
 // Past a line end.
