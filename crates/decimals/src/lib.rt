@@ -80,12 +80,19 @@ pub fn literal_length(literal: i32) -> usize
     sign_length(literal) + count_ten(magnitude(literal))
 }
 
+// How many bytes an output has from a place on.
+fn room_from(long: usize, at: usize) -> usize
+    ensures { result ≡ long - at }
+{
+    long.saturating_sub(at)
+}
+
 // Whether a number would end past an output, at a place and after so many bytes. Its digits are counted only where they may not fit.
 fn lacks_room(long: usize, at: usize, before: usize, n: u64) -> bool
     requires { before ≤ 1 }
     ensures { result ≡ ltb long (at + (before + length (digits n))) }
 {
-    let room = long.saturating_sub(at);
+    let room = room_from(long, at);
     room <= MOST && room < before + digit_count(n)
 }
 

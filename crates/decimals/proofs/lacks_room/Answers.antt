@@ -15,11 +15,11 @@ overflow_add-result c = record { fits = omega (arith, c.requires, c.digit_count.
 
 pub returns-then-room-le-MOST : goal.returns-then-room-le-MOST
 returns-then-room-le-MOST c =
-    ap (λ many. ltb c.saturating_sub-room.result (c.args.before + many)) c.digit_count.ensures
-    ∙ room_tested c.args.long c.args.at (c.args.before + length (digits c.args.n)) c.saturating_sub-room.ensures (omega (arith, digits_bounded c.args.n))
+    ap (λ many. ltb c.room_from-room.result (c.args.before + many)) c.digit_count.ensures
+    ∙ room_tested c.args.long c.args.at (c.args.before + length (digits c.args.n)) c.room_from-room.ensures (omega (arith, digits_bounded c.args.n))
 
 pub returns-else-room-le-MOST : goal.returns-else-room-le-MOST
 returns-else-room-le-MOST c =
     let most = digits_below 20 c.args.n (omega arith) (omega (arith, c.ranges.n)) in
-    lt-leb c.saturating_sub-room.result 20 c.if-room-le-MOST.false
-    ∙ sym (le-ltb c.args.long (c.args.at + (c.args.before + length (digits c.args.n))) (omega (arith, c.requires, c.saturating_sub-room.ensures, c.if-room-le-MOST.false, most)))
+    lt-leb c.room_from-room.result 20 c.if-room-le-MOST.false
+    ∙ sym (le-ltb c.args.long (c.args.at + (c.args.before + length (digits c.args.n))) (omega (arith, c.requires, c.room_from-room.ensures, c.if-room-le-MOST.false, most)))
