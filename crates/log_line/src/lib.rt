@@ -1,7 +1,7 @@
 // The lines of a solver log: what each kind of line leads to, with its literals read into a lent buffer.
 #![tactic(auto)]
 
-ghost use Rattle.std.specs.Prelude.{◌≡◌, length, take};
+ghost use Rattle.std.specs.Prelude.{◌≡◌, length, take, Some};
 ghost use Rattle.dimacs.specs.Names.{refusal};
 ghost use Rattle.dimacs.specs.Lined.{lined};
 ghost use Rattle.dimacs.specs.Logs.{line_read, solution_line, log_end, other_line, value_line};
@@ -82,6 +82,26 @@ pub fn value_line(
     }
 }
 
+// A solution line is read up to a place: past its word, which says a verdict.
+fn verdict_read(
+    text: &[u8],
+    ends: Ends,
+    place: usize,
+    verdict: Verdict,
+    assignment: Assignment,
+    count: usize,
+) -> Result<Reading, Stopped>
+    ensures { ByCount count (λ so. log_line_of (line_read (lined ends text.now) place (Some verdict) assignment so)) (leads result) }
+{
+    let said = Reading {
+        place,
+        verdict: Some(verdict),
+        assignment,
+        count,
+    };
+    line_read(text, ends, said)
+}
+
 // The words of a solution line, and what each says.
 const WORDS: [(&[u8], Verdict); 3] = [
     (b"SATISFIABLE", Verdict::Yes),
@@ -103,12 +123,14 @@ pub fn solution_line(
         // Where the word does not stand, this is the place itself, as in the definition.
         let place = token::fixed(text, at, word);
         if place != at {
-            let read = Reading {
+            return verdict_read(
+                text,
+                ends,
                 place,
-                verdict: Some(verdict),
-                ..reading
-            };
-            return line_read(text, ends, read);
+                verdict,
+                reading.assignment,
+                reading.count,
+            );
         }
     }
     Err(stopped(text, ends, Reason::SolutionExpected, at, reading.count))

@@ -11,7 +11,7 @@ loop-word-init c = λ so. refl
 
 pub returns-then-place-at : goal.returns-then-place-at
 returns-then-place-at c = λ so h.
-    c.line_read.ensures so h
+    c.verdict_read.ensures so h
     ∙ ap log_line_of (sym (c.loop-word.invariant so
     ∙ word_stands _ _ _ (log_state_of c.args.reading so) _ _ _ (refl, (refl, (refl, tt))) c.loop-word-test.true _ c.fixed-place.ensures c.if-place-at.true))
 
