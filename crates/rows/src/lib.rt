@@ -1,7 +1,7 @@
 // A row of literals, read into a lent buffer after those that it holds.
 #![tactic(auto)]
 
-ghost use Rattle.std.specs.Prelude.{length, take};
+ghost use Rattle.std.specs.Prelude.{◌≡◌, length, take, min};
 ghost use Rattle.dimacs.specs.Lined.{lined};
 ghost use Rattle.dimacs.specs.Rows.{reads, row};
 ghost use Rattle.rows.specs.Answers.{ReadsRow};
@@ -24,6 +24,13 @@ pub struct Stopped {
     pub count: usize,
 }
 
+// After how many literals of a buffer a row begins: after so many, or after all where it has not so many.
+fn begins_after(held: usize, long: usize) -> usize
+    ensures { result ≡ min held long }
+{
+    held.min(long)
+}
+
 // The row from a place on, after `held` literals of the buffer, or after all where it has not so many.
 pub fn ints(
     text: &[u8],
@@ -36,7 +43,7 @@ pub fn ints(
     ensures { ReadsRow (row (lined ends text.now) limit (length lits.old) (reads at (take held lits.old))) lits.old lits.new result }
 {
     let mut place = at;
-    let mut count = held.min(lits.len());
+    let mut count = begins_after(held, lits.len());
     loop {
         match numeral::int(text, place, limit) {
             Int::Missing => return Ok(Row::Ends { place, count }),

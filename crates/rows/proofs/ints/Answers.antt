@@ -7,7 +7,6 @@ use Rattle.dimacs.proofs.Rows.{row_ends, row_closes, row_too_big, row_full, row_
 use Rattle.dimacs.proofs.Buffer.{kept_full, kept_room}
 use Rattle.rows.proofs.Buffer.{row_so_far_begin, row_so_far_ends, row_so_far_closes, row_so_far_stops, row_so_far_puts}
 use borrow.Author.Rules.{rules}
-use native.Mathlib.Omega.{arith}
 use Rattle.rows.proofs.ints.Goals as goal
 use Rattle.rows.proofs.ints.Goals.{Else-lits-count}
 
@@ -16,7 +15,7 @@ literal_back : (c : Else-lits-count) → to_z w32 (of_z w32 c.in-Literal.v) ≡ 
 literal_back c = search rules
 
 pub loop-next-init : goal.loop-next-init
-loop-next-init c = row_so_far_begin _ _ c.min-count.ensures
+loop-next-init c = row_so_far_begin _ _ c.begins_after-count.ensures
 
 pub returns-in-Missing : goal.returns-in-Missing
 returns-in-Missing c = row_so_far_ends c.loop-next.invariant (row_ends _ _ _ _ _ (int_lined _ _ _ _ ∙ sym c.int.ensures ∙ c.in-Missing.is))
