@@ -1,5 +1,6 @@
 -- `measures::left_after` meets its contract: the literals that come leave of what is left what all of them leave of the room. Assumes nothing.
 use mathlib.Core.Path.{◌≡◌, ap, ◌∙◌}
+use native.Mathlib.Omega.{arith}
 use borrow.Author.Rules.{rules}
 use lib.IntN.{pos}
 use lib.ListN.{length, get_or}
@@ -20,7 +21,7 @@ pub loop-lit-init : goal.loop-lit-init
 loop-lit-init c = record { same = items_taken c.args.room c.args.lits.now }
 
 pub returns-then-left-long : goal.returns-then-left-long
-returns-then-left-long c = leaves_none c.loop-lit.invariant c.loop-lit-test.true (long_is (goal.at.returns-then-left-long c).After-item_length-long) c.if-left-long.true
+returns-then-left-long c = leaves_none c.loop-lit.invariant c.loop-lit-test.true (long_is (goal.at.returns-then-left-long c).After-item_length-long) (omega (arith, c.if-left-long.true))
 
 pub loop-lit-preserved : goal.loop-lit-preserved
 loop-lit-preserved c = leaves_next c.loop-lit.invariant c.loop-lit-test.true (long_is (goal.at.loop-lit-preserved c).After-item_length-long)
