@@ -69,6 +69,10 @@ laid_stands {piece} {old} h =
 pub laid_then : {p q : List ℕ} {old mid new : Page} → Laid p old mid → Laid q mid new → Laid (p ++ q) old new
 laid_then h k = record { same_page = k.same_page ∙ h.same_page; lays = lay_then h.lays k.lays }
 
+-- A page goes on at its place, whatever way that is told.
+pub laid_at : {p : List ℕ} {old a b : Page} → b.bytes ≡ a.bytes → b.at ≡ a.at → Laid p old a → Laid p old b
+laid_at e i h = record { same_page = ap (λ m. m.ghost_name) e ∙ h.same_page; lays = rw (e, i) h.lays }
+
 -- The pieces of so many elements of a list, and then that of the next.
 pub laid_next : {A : Type 0} (f : A → List ℕ) (l : List A) {i : ℕ} (d : A) {old mid new : Page} → i < length l →
     Laid (flat_map f (take i l)) old mid → Laid (f (get_or l i d)) mid new → Laid (flat_map f (take (i + 1) l)) old new
