@@ -13,10 +13,11 @@ use dimacs::{Assignment, CEILING, Ends, Mode, Reason, Rigor, Verdict, refuse};
 use rows::{Row, Stopped};
 
 // What an accepted log comes to: the solver's verdict, if a solution line stands, and how many literals of the assignment the buffer holds.
+// The count is a word and stands first, as the place of a reading does: so LLVM takes neither apart where either may be answered.
 #[derive(Clone, Copy, Debug, PartialEq, Eq)]
 pub struct Accepted {
-    pub verdict: Option<Verdict>,
     pub count: usize,
+    pub verdict: Option<Verdict>,
 }
 
 // Where a log is read: the place, the verdict so far, how far the assignment is, and how many literals the buffer holds.
