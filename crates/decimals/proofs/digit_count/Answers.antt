@@ -13,4 +13,4 @@ pub returns : goal.returns
 returns c =
     let n = c.args.n in
     let e = count_from_yields_List c.take_while.result _ c.count.ensures.ran (YieldsList-from_take_while _ (λ p. leb p n) (YieldsList-from_slice (powers 1 19) (cc)) c.take_while.ensures.closure c.take_while.ensures.done (λ x b q k. search (rules, tests))) ∙ length-prefix_len (λ p. leb p n) (powers 1 19) in
-    ap (λ k. 1 + k) e ∙ front_counted n 19 1 (omega arith) (digits_bounded n).some (omega (arith, c.ranges.n))
+    omega (arith, e, front_counted n 19 1 (omega arith) (digits_bounded n).some (omega (arith, c.ranges.n)))
