@@ -1,5 +1,5 @@
 -- `decimals::digit_count` meets its contract: each power that fits is one digit more. Assumes nothing.
-use Rattle.std.proofs.Common.{rules, tests, ◌+◌, ap, ◌∙◌}
+use Rattle.std.proofs.Common.{rules, tests, ◌∙◌}
 use native.Mathlib.Omega.{arith}
 use lib.Dec.{leb}
 use Rattle.std.proofs.lemmas.Iterator.{YieldsList-from_slice}
